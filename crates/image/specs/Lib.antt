@@ -1,0 +1,4 @@
+pub mod Constants
+pub mod Images
+pub mod Writes
+pub mod Example

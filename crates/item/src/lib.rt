@@ -1,0 +1,3 @@
+// The items of an instruction list, and the mnemonics that they are written with.
+pub mod item;
+pub mod mnemonic;

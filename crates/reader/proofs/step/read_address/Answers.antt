@@ -1,0 +1,10 @@
+use mathlib.Core.Path.{sym, ap, _∙_}
+use Rattle.reader.specs.Fits.{fitting}
+use Rattle.reader.specs.Steps.{address}
+use Rattle.reader.proofs.Fitted.{fitted}
+use Rattle.reader.proofs.step.read_address.Needs as need
+
+pub returns : need.returns
+returns c =
+    c .use-operand .ensures
+    ∙ ap (λ o. fitting (c .args .placed .place) (address (c .args .state) (c .args .role) o)) (sym (fitted _ _ _ (c .in-Continue-operand .ensures tt)))

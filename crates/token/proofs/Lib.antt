@@ -1,0 +1,4 @@
+pub mod Steps
+pub mod Theorem
+pub mod Commas
+pub mod Turns

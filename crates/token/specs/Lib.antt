@@ -1,0 +1,5 @@
+pub mod Chars
+pub mod Cuts
+pub mod Runs
+pub mod Tokens
+pub mod Reads

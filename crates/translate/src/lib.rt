@@ -1,0 +1,3 @@
+// From the text of a list to its image.
+pub mod refusal;
+pub mod translate;
