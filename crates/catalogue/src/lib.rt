@@ -24,8 +24,14 @@ pub enum Pin {
     Mark,
 }
 
-static DELAY: [Pin; 3] = [Pin::Input(Size::Bit), Pin::Input(Size::Double), Pin::Output(Size::Bit)];
+static DELAY: [Pin; 3] = [
+    Pin::Input(Size::Bit),
+    Pin::Input(Size::Double),
+    Pin::Output(Size::Bit),
+];
+
 static EDGE: [Pin; 2] = [Pin::Input(Size::Bit), Pin::Output(Size::Bit)];
+
 static COUNTER: [Pin; 8] = [
     Pin::Input(Size::Bit),
     Pin::Input(Size::Bit),
@@ -36,8 +42,16 @@ static COUNTER: [Pin; 8] = [
     Pin::Output(Size::Bit),
     Pin::Output(Size::Word),
 ];
-static SCALE: [Pin; 4] = [Pin::Input(Size::Word), Pin::Input(Size::Word), Pin::Input(Size::Word), Pin::Output(Size::Word)];
+
+static SCALE: [Pin; 4] = [
+    Pin::Input(Size::Word),
+    Pin::Input(Size::Word),
+    Pin::Input(Size::Word),
+    Pin::Output(Size::Word),
+];
+
 static COPY: [Pin; 2] = [Pin::Input(Size::Double), Pin::Output(Size::Double)];
+
 static JUMP: [Pin; 2] = [Pin::Input(Size::Bit), Pin::Mark];
 
 fn in_series_90(number: u16) -> Option<Block>

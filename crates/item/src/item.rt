@@ -2,12 +2,12 @@
 ghost use mathlib.Core.Path.{_≡_};
 ghost use Prim.Native.Nat.{_≤_};
 ghost use Rattle.item.specs.Items.{number-of, argument-of, item-cells};
-use catalogue::Block;
 use crate::mnemonic::Comparison;
 use crate::mnemonic::Form;
 use crate::mnemonic::Mnemonic;
 use crate::mnemonic::Operator;
 use crate::mnemonic::Turn;
+use catalogue::Block;
 use operand::operand::Operand;
 
 // The argument of a call without a number.
@@ -61,7 +61,8 @@ impl Item {
         ensures { λ r. ⌜ r ≡ argument-of self ⌝ }
     {
         match self {
-            Item::Operand(operand) | Item::Assign(_, operand) | Item::Pin(operand) => operand.code(),
+            Item::Operand(operand) | Item::Assign(_, operand) | Item::Pin(operand) =>
+                operand.code(),
             Item::Call(Some(number)) => number,
             Item::Call(None) => NO_NUMBER,
             Item::Kind(block) => block.number(),

@@ -13,7 +13,8 @@ use Rattle.std.specs.declared.option.Option.the-variants.{Some, None}
 use Rattle.std.proofs.shelf.Lists.{at-drop-more, at-drop-all}
 use Rattle.std.proofs.shelf.Tests.{cond-true, eq-eqb}
 use Rattle.std.proofs.shelf.Ways.{tells}
-use Rattle.numeral.specs.Numerals.{value-on, natural, written-as, minus-of, plain-of, up-to, digit-on, is-digit}
+use Rattle.character.specs.Classes.{is-digit}
+use Rattle.numeral.specs.Numerals.{value-on, natural, written-as, minus-of, plain-of, up-to, digit-on}
 
 -- what the digits that are left make of n
 abbrev pub rest : ℕ → ℕ → List ℕ → Option ℕ

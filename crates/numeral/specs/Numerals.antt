@@ -8,6 +8,7 @@ use lib.Signed.{leZ}
 use Rattle.std.specs.shelf.Text.{allDigits}
 use Rattle.std.specs.declared.option.Option.{Option}
 use Rattle.std.specs.declared.option.Option.the-variants.{Some, None}
+use Rattle.character.specs.Classes.{is-digit}
 
 -- the number that digits write after n
 abbrev pub value-on : ℕ → List ℕ → ℕ
@@ -49,10 +50,6 @@ up-to limit (Some n) = cond (leb n limit) (Some n) None
 abbrev pub within : ℤ → ℤ → Option Written → Option ℤ
 within low high None = None
 within low high (Some w) = cond (leZ low (value-of w) && leZ (value-of w) high) (Some (value-of w)) None
-
--- a byte that is a digit
-abbrev pub is-digit : ℕ → Bool
-is-digit c = leb 48 c && leb c 57
 
 -- the number with one more digit behind n, where that is at most limit
 abbrev pub digit-on : ℕ → ℕ → ℕ → Option ℕ

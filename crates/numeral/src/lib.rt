@@ -4,16 +4,11 @@ ghost use lib.IntN.{pos, negℤ};
 ghost use mathlib.Core.Path.{_≡_};
 ghost use Rattle.std.specs.Options.{isSome};
 ghost use Rattle.std.specs.shelf.Text.{allDigits};
-ghost use Rattle.numeral.specs.Numerals.{natural, plain-of, minus-of, written-as, up-to, within, is-digit, digit-on, signed-of, from-to};
+ghost use Rattle.numeral.specs.Numerals.{natural, plain-of, minus-of, written-as, up-to, within, digit-on, signed-of, from-to};
+use character::is_digit;
 
 // The largest size that a number of 32 bits has: that of the least one.
 const LARGEST: u32 = 0x8000_0000;
-
-fn is_digit(byte: u8) -> bool
-    ensures { λ r. ⌜ r ≡ is-digit byte ⌝ }
-{
-    b'0' <= byte && byte <= b'9'
-}
 
 // The number that one more digit makes of `value`, unless it passes the limit.
 fn append_digit(value: u32, digit: u8, limit: u32) -> Option<u32>

@@ -29,11 +29,12 @@ below [] k place l h = absurd (both-ways _ refl h)
 below (r ∷ rs) k place l h =
     let parts = and-parts (lawful-range r) (all-lawful rs) l in
     elim (or-cases (range-holds r k place) (any-holds rs k place) h) [
-      inl here ↦
-        let end = and-parts (leb (r .first) (r .last)) (leb (r .last) 4095) (parts .0) .1 in
-        let inside = and-parts (leb (r .first) place) (leb place (r .last)) (and-parts (same-kind (r .kind) k) _ here .1) .1 in
-        omega (arith, leb-true (r .last) 4095 end, leb-true place (r .last) inside)
-    | inr there ↦ below rs k place (parts .1) there ]
+      | inl here ↦
+          let end = and-parts (leb (r .first) (r .last)) (leb (r .last) 4095) (parts .0) .1 in
+          let inside = and-parts (leb (r .first) place) (leb place (r .last)) (and-parts (same-kind (r .kind) k) _ here .1) .1 in
+          omega (arith, leb-true (r .last) 4095 end, leb-true place (r .last) inside)
+      | inr there ↦ below rs k place (parts .1) there
+    ]
 
 kind-again : (k : Kind) → kind-numbered (number-of k) ≡ Some k
 kind-again Input = refl

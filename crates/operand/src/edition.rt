@@ -7,7 +7,7 @@ use crate::kind::KindPartialEq;
 
 #[derive(Clone, Copy)]
 pub enum Edition {
-    Series90,
+    Series90 = 90,
 }
 
 // The places of a kind from `first` to `last`; a place is 16 × group + channel.
@@ -19,17 +19,61 @@ pub struct Range {
 }
 
 static SERIES_90: [Range; 11] = [
-    Range { kind: Kind::Input, first: 0, last: 1023 },
-    Range { kind: Kind::Output, first: 0, last: 1023 },
-    Range { kind: Kind::Marker, first: 0, last: 4095 },
-    Range { kind: Kind::Step, first: 0, last: 2047 },
-    Range { kind: Kind::Constant, first: 0, last: 1 },
-    Range { kind: Kind::InputWord, first: 0, last: 127 },
-    Range { kind: Kind::OutputWord, first: 0, last: 127 },
-    Range { kind: Kind::MarkerWord, first: 0, last: 4095 },
-    Range { kind: Kind::ConstantWord, first: 0, last: 639 },
-    Range { kind: Kind::MarkerDouble, first: 0, last: 511 },
-    Range { kind: Kind::ConstantDouble, first: 0, last: 127 },
+    Range {
+        kind: Kind::Input,
+        first: 0,
+        last: 1023,
+    },
+    Range {
+        kind: Kind::Output,
+        first: 0,
+        last: 1023,
+    },
+    Range {
+        kind: Kind::Marker,
+        first: 0,
+        last: 4095,
+    },
+    Range {
+        kind: Kind::Step,
+        first: 0,
+        last: 2047,
+    },
+    Range {
+        kind: Kind::Constant,
+        first: 0,
+        last: 1,
+    },
+    Range {
+        kind: Kind::InputWord,
+        first: 0,
+        last: 127,
+    },
+    Range {
+        kind: Kind::OutputWord,
+        first: 0,
+        last: 127,
+    },
+    Range {
+        kind: Kind::MarkerWord,
+        first: 0,
+        last: 4095,
+    },
+    Range {
+        kind: Kind::ConstantWord,
+        first: 0,
+        last: 639,
+    },
+    Range {
+        kind: Kind::MarkerDouble,
+        first: 0,
+        last: 511,
+    },
+    Range {
+        kind: Kind::ConstantDouble,
+        first: 0,
+        last: 127,
+    },
 ];
 
 fn series_90() -> &'static [Range]
@@ -43,9 +87,7 @@ impl Edition {
     pub fn number(self) -> u16
         ensures { λ r. ⌜ r ≡ edition-number self ⌝ }
     {
-        match self {
-            Edition::Series90 => 90,
-        }
+        self as u16
     }
 
     pub fn ranges(self) -> &'static [Range]

@@ -87,7 +87,8 @@ impl Kind {
     {
         match self {
             Kind::Input | Kind::Output | Kind::Marker | Kind::Step | Kind::Constant => Size::Bit,
-            Kind::InputWord | Kind::OutputWord | Kind::MarkerWord | Kind::ConstantWord => Size::Word,
+            Kind::InputWord | Kind::OutputWord | Kind::MarkerWord | Kind::ConstantWord =>
+                Size::Word,
             Kind::MarkerDouble | Kind::ConstantDouble => Size::Double,
         }
     }

@@ -21,18 +21,50 @@ pub struct Operand {
 
 // The kinds that a list may write.
 static WRITABLE: [Range; 6] = [
-    Range { kind: Kind::Output, first: 0, last: 4095 },
-    Range { kind: Kind::Marker, first: 0, last: 4095 },
-    Range { kind: Kind::Step, first: 0, last: 4095 },
-    Range { kind: Kind::OutputWord, first: 0, last: 4095 },
-    Range { kind: Kind::MarkerWord, first: 0, last: 4095 },
-    Range { kind: Kind::MarkerDouble, first: 0, last: 4095 },
+    Range {
+        kind: Kind::Output,
+        first: 0,
+        last: 4095,
+    },
+    Range {
+        kind: Kind::Marker,
+        first: 0,
+        last: 4095,
+    },
+    Range {
+        kind: Kind::Step,
+        first: 0,
+        last: 4095,
+    },
+    Range {
+        kind: Kind::OutputWord,
+        first: 0,
+        last: 4095,
+    },
+    Range {
+        kind: Kind::MarkerWord,
+        first: 0,
+        last: 4095,
+    },
+    Range {
+        kind: Kind::MarkerDouble,
+        first: 0,
+        last: 4095,
+    },
 ];
 
 // Of these, the system's own: M 255,10 to 255,14 and MW 254,00 to 255,15.
 static SYSTEM: [Range; 2] = [
-    Range { kind: Kind::Marker, first: 4090, last: 4094 },
-    Range { kind: Kind::MarkerWord, first: 4064, last: 4095 },
+    Range {
+        kind: Kind::Marker,
+        first: 4090,
+        last: 4094,
+    },
+    Range {
+        kind: Kind::MarkerWord,
+        first: 4064,
+        last: 4095,
+    },
 ];
 
 fn writable() -> &'static [Range]
@@ -53,7 +85,11 @@ pub fn operand_at(edition: Edition, kind: Kind, group: u8, channel: u8) -> Optio
 {
     let place = 16 * group as u16 + channel as u16;
     if channel <= 15 && in_ranges(edition.ranges(), kind, place) {
-        Some(Operand { kind, group, channel })
+        Some(Operand {
+            kind,
+            group,
+            channel,
+        })
     } else {
         None
     }
@@ -109,6 +145,7 @@ impl Operand {
     pub fn is_writable(self) -> bool
         ensures { λ r. ⌜ r ≡ may-write self ⌝ }
     {
-        in_ranges(writable(), self.kind, self.place()) && !in_ranges(system(), self.kind, self.place())
+        in_ranges(writable(), self.kind, self.place())
+            && !in_ranges(system(), self.kind, self.place())
     }
 }

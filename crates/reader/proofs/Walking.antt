@@ -35,8 +35,8 @@ module _ (e : Edition) (end : ℕ) (ps : List Placed) (i : ℕ) (r : Read) (all 
       one-token d l ∙ ap (λ o. go-on o (getD ps i d .place) r (read-on e end (map seen-of (drop (i + 1) ps)))) (u .0) ∙ ap misfit (u .1)
 
   pub went-on : (d : Placed) (st : Step) (is : List Item) (cs : List Constant) → i < length ps → Ok st ≡ fitting (getD ps i d .place) (next-of e r (getD ps i d))
-    → is ≡ items-after (st .put) (r .items) → cs ≡ constants-after (st .put) (r .constants)
-    → read-on e end (map seen-of (drop (i + 1) ps)) (record { items = is; constants = cs; state = st .state }) ≡ all
+      → is ≡ items-after (st .put) (r .items) → cs ≡ constants-after (st .put) (r .constants)
+      → read-on e end (map seen-of (drop (i + 1) ps)) (record { items = is; constants = cs; state = st .state }) ≡ all
   went-on d st is cs l h p q =
       let n = fitted (getD ps i d .place) (next-of e r (getD ps i d)) st h in
       (λ j. read-on e end (map seen-of (drop (i + 1) ps)) (record { items = p j; constants = q j; state = st .state }))

@@ -1,5 +1,5 @@
 // From tokens to the items and constants of a list.
-pub mod number;
+mod number;
 pub mod read;
-pub mod state;
-pub mod step;
+mod state;
+mod step;

@@ -37,10 +37,14 @@ pub fn read_operand(edition: Edition, kind: Kind, placed: Placed) -> Result<Oper
     ensures { λ r. ⌜ r ≡ fitting (placed .entry .place) (operand-in edition kind (meaning (placed .entry .token))) ⌝ }
 {
     let Token::Pair(group, channel) = placed.token else {
-        return Err(Misfit { place: placed.place });
+        return Err(Misfit {
+            place: placed.place,
+        });
     };
     let Some(operand) = operand_of(edition, kind, group, channel) else {
-        return Err(Misfit { place: placed.place });
+        return Err(Misfit {
+            place: placed.place,
+        });
     };
     Ok(operand)
 }
@@ -50,10 +54,14 @@ pub fn read_number(placed: Placed, low: i32, high: i32) -> Result<i32, Misfit>
     ensures { λ r. ⌜ r ≡ fitting (placed .entry .place) (value-in low high (meaning (placed .entry .token))) ⌝ }
 {
     let Token::Number(digits) = placed.token else {
-        return Err(Misfit { place: placed.place });
+        return Err(Misfit {
+            place: placed.place,
+        });
     };
     let Some(value) = read_value(digits, low, high) else {
-        return Err(Misfit { place: placed.place });
+        return Err(Misfit {
+            place: placed.place,
+        });
     };
     Ok(value)
 }
@@ -63,7 +71,9 @@ pub fn read_letters(placed: Placed) -> Result<Kind, Misfit>
     ensures { λ r. ⌜ r ≡ fitting (placed .entry .place) (kind-in (meaning (placed .entry .token))) ⌝ }
 {
     let Token::Letters(_, kind) = placed.token else {
-        return Err(Misfit { place: placed.place });
+        return Err(Misfit {
+            place: placed.place,
+        });
     };
     Ok(kind)
 }

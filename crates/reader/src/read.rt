@@ -73,12 +73,21 @@ fn put_constant(constants: &mut Vec<Constant>, put: Put) -> Result<(), ReadRefus
 }
 
 // Reads the tokens of a text that ends at the byte place `end`.
-pub fn read(heap: Global, edition: Edition, tokens: &[Placed], end: usize) -> Result<Program, ReadRefusal>
+pub fn read(
+    heap: Global,
+    edition: Edition,
+    tokens: &[Placed],
+    end: usize,
+) -> Result<Program, ReadRefusal>
     ensures { λ r. ⌜ Reads (read-on edition end (map seen-of (now (tokens .entry))) unread) r ⌝ }
 {
     let mut items = Vec::new(heap);
     let mut constants = Vec::new(heap);
-    let mut state = State { asks: Asks::Entry, pins: 0, last: None };
+    let mut state = State {
+        asks: Asks::Entry,
+        pins: 0,
+        last: None,
+    };
     for placed in tokens {
         let step = match next(edition, state, *placed) {
             Ok(step) => step,

@@ -9,7 +9,6 @@ ghost use Rattle.operand.specs.Kinds.{size-of};
 ghost use Rattle.numeral.specs.Numerals.{written-as};
 ghost use Rattle.token.specs.Reads.{meaning};
 ghost use Rattle.token.specs.Tokens.{number-or, unknown};
-use catalogue::Block;
 use crate::number::Misfit;
 use crate::number::read_letters;
 use crate::number::read_number;
@@ -19,6 +18,7 @@ use crate::state::Put;
 use crate::state::Role;
 use crate::state::State;
 use crate::state::Step;
+use catalogue::Block;
 use image::constant::Constant;
 use item::item::Item;
 use item::mnemonic::Form;
@@ -37,14 +37,23 @@ use token::token::Token;
 fn ask(state: State, asks: Asks) -> Step
     ensures { λ r. ⌜ r ≡ asking state asks ⌝ }
 {
-    Step { put: Put::Nothing, state: State { asks, ..state } }
+    Step {
+        put: Put::Nothing,
+        state: State { asks, ..state },
+    }
 }
 
 // An item is complete.
 fn done(state: State, item: Item) -> Step
     ensures { λ r. ⌜ r ≡ item-done state item ⌝ }
 {
-    Step { put: Put::Item(item), state: State { asks: Asks::Entry, ..state } }
+    Step {
+        put: Put::Item(item),
+        state: State {
+            asks: Asks::Entry,
+            ..state
+        },
+    }
 }
 
 // An item is complete, and with it a pin, if one was to come.
@@ -52,7 +61,14 @@ fn pin(state: State, item: Item) -> Step
     ensures { λ r. ⌜ r ≡ pin-done state item ⌝ }
 {
     let pins = state.pins.saturating_sub(1);
-    Step { put: Put::Item(item), state: State { asks: Asks::Entry, pins, last: state.last } }
+    Step {
+        put: Put::Item(item),
+        state: State {
+            asks: Asks::Entry,
+            pins,
+            last: state.last,
+        },
+    }
 }
 
 fn begin(state: State, mnemonic: Mnemonic) -> Step
@@ -67,10 +83,22 @@ fn begin(state: State, mnemonic: Mnemonic) -> Step
         Mnemonic::Compare(comparison) => done(state, Item::Compare(comparison)),
         Mnemonic::Assign(form) => ask(state, Asks::Target(form)),
         Mnemonic::EndIf => done(state, Item::EndIf),
-        Mnemonic::Call => Step { put: Put::Item(Item::Call(None)), state: State { asks: Asks::CallNumber, ..state } },
+        Mnemonic::Call => Step {
+            put: Put::Item(Item::Call(None)),
+            state: State {
+                asks: Asks::CallNumber,
+                ..state
+            },
+        },
         Mnemonic::Direct => ask(state, Asks::Direct),
         Mnemonic::Mark => ask(state, Asks::Mark),
-        Mnemonic::End => Step { put: Put::Item(Item::End), state: State { asks: Asks::Constant, ..state } },
+        Mnemonic::End => Step {
+            put: Put::Item(Item::End),
+            state: State {
+                asks: Asks::Constant,
+                ..state
+            },
+        },
     }
 }
 
@@ -78,7 +106,14 @@ fn name_block(state: State, block: Block) -> Step
     ensures { λ r. ⌜ r ≡ named state block ⌝ }
 {
     let pins = block.pins().len();
-    Step { put: Put::Item(Item::Kind(block)), state: State { asks: Asks::Entry, pins, last: state.last } }
+    Step {
+        put: Put::Item(Item::Kind(block)),
+        state: State {
+            asks: Asks::Entry,
+            pins,
+            last: state.last,
+        },
+    }
 }
 
 // Any item may begin.
@@ -89,7 +124,9 @@ fn read_entry(state: State, placed: Placed) -> Result<Step, Misfit>
         Token::Operator(_, mnemonic) => Ok(begin(state, mnemonic)),
         Token::Letters(_, kind) => Ok(ask(state, Asks::Address(Role::Term, kind))),
         Token::Block(_, block) => Ok(name_block(state, block)),
-        _ => Err(Misfit { place: placed.place }),
+        _ => Err(Misfit {
+            place: placed.place,
+        }),
     }
 }
 
@@ -100,7 +137,13 @@ fn number_call(state: State, digits: &[u8]) -> Option<Step>
     let Some(number) = read_natural(digits, 999) else {
         return None;
     };
-    Some(Step { put: Put::CallNumber(number as u16), state: State { asks: Asks::Entry, ..state } })
+    Some(Step {
+        put: Put::CallNumber(number as u16),
+        state: State {
+            asks: Asks::Entry,
+            ..state
+        },
+    })
 }
 
 // After `!BA` a number may stand; else any item may begin.
@@ -111,7 +154,9 @@ fn read_call_number(state: State, placed: Placed) -> Result<Step, Misfit>
         return read_entry(state, placed);
     };
     let Some(step) = number_call(state, digits) else {
-        return Err(Misfit { place: placed.place });
+        return Err(Misfit {
+            place: placed.place,
+        });
     };
     Ok(step)
 }
@@ -124,7 +169,11 @@ fn read_target(state: State, form: Form, placed: Placed) -> Result<Step, Misfit>
 }
 
 // What stands behind a list may be defined once, in rising order, but for KW 00,13 to 00,15.
-static RESERVED: [Range; 1] = [Range { kind: Kind::ConstantWord, first: 13, last: 15 }];
+static RESERVED: [Range; 1] = [Range {
+    kind: Kind::ConstantWord,
+    first: 13,
+    last: 15,
+}];
 
 fn reserved_ranges() -> &'static [Range]
     ensures { λ r. ⌜ now r ≡ reserved ⌝ }
@@ -151,7 +200,11 @@ fn may_be_constant(last: Option<Operand>, operand: Operand) -> bool
 fn term_of(state: State, operand: Operand) -> Step
     ensures { λ r. ⌜ r ≡ term state (state .pins) operand ⌝ }
 {
-    if state.pins > 0 { pin(state, Item::Pin(operand)) } else { done(state, Item::Operand(operand)) }
+    if state.pins > 0 {
+        pin(state, Item::Pin(operand))
+    } else {
+        done(state, Item::Operand(operand))
+    }
 }
 
 // What an operand is read for.
@@ -171,7 +224,13 @@ fn use_operand(state: State, role: Role, operand: Operand, place: usize) -> Resu
     }
 }
 
-fn read_address(edition: Edition, state: State, role: Role, kind: Kind, placed: Placed) -> Result<Step, Misfit>
+fn read_address(
+    edition: Edition,
+    state: State,
+    role: Role,
+    kind: Kind,
+    placed: Placed,
+) -> Result<Step, Misfit>
     ensures { λ r. ⌜ r ≡ fitting (placed .entry .place) (address state role (operand-in edition kind (meaning (placed .entry .token)))) ⌝ }
 {
     let operand = read_operand(edition, kind, placed)?;
@@ -183,7 +242,11 @@ fn bits_of(value: i32) -> u16
     requires { ⌜ negsuc 32767 ≤ℤ value ⌝ ∗ ⌜ value ≤ℤ pos 32767 ⌝ }
     ensures { λ r. ⌜ r ≡ word-bits value ⌝ }
 {
-    if value < 0 { (value + 0x1_0000) as u16 } else { value as u16 }
+    if value < 0 {
+        (value + 0x1_0000) as u16
+    } else {
+        value as u16
+    }
 }
 
 // The value of a direct pin, any word.
@@ -218,7 +281,9 @@ fn read_constant(state: State, placed: Placed) -> Result<Step, Misfit>
     if is_constant(kind) {
         Ok(ask(state, Asks::Address(Role::Constant, kind)))
     } else {
-        Err(Misfit { place: placed.place })
+        Err(Misfit {
+            place: placed.place,
+        })
     }
 }
 
@@ -227,7 +292,9 @@ fn read_define(state: State, operand: Operand, placed: Placed) -> Result<Step, M
 {
     match placed.token {
         Token::Define(_) => Ok(ask(state, Asks::Value(operand))),
-        _ => Err(Misfit { place: placed.place }),
+        _ => Err(Misfit {
+            place: placed.place,
+        }),
     }
 }
 
@@ -247,7 +314,14 @@ fn define(state: State, operand: Operand, value: i32) -> Step
     ensures { λ r. ⌜ r ≡ constant-done state operand value ⌝ }
 {
     let put = Put::Constant(Constant { operand, value });
-    Step { put, state: State { asks: Asks::Constant, pins: state.pins, last: Some(operand) } }
+    Step {
+        put,
+        state: State {
+            asks: Asks::Constant,
+            pins: state.pins,
+            last: Some(operand),
+        },
+    }
 }
 
 fn read_constant_value(state: State, operand: Operand, placed: Placed) -> Result<Step, Misfit>

@@ -36,7 +36,10 @@ impl fmt::Display for Counts as CountsDisplay {
         let items = self.0.items;
         let constants = self.0.constants;
         let cells = self.0.cells;
-        write!(f, "translated {items} items {constants} constants {cells} cells")
+        write!(
+            f,
+            "translated {items} items {constants} constants {cells} cells"
+        )
     }
 }
 
@@ -44,14 +47,20 @@ fn accepted(heap: Global, written: Written) -> Result<Report, AllocError>
     ensures { λ r. ⌜ made r (λ p. (string-bytes (p .line) ≡ translated-line written) × (p .accepted ≡ true)) ⌝ }
 {
     let line = Counts(written).to_string(heap)?;
-    Ok(Report { line, accepted: true })
+    Ok(Report {
+        line,
+        accepted: true,
+    })
 }
 
 fn refused(heap: Global, told: Told) -> Result<Report, AllocError>
     ensures { λ r. ⌜ made r (λ p. (string-bytes (p .line) ≡ refused-line told) × (p .accepted ≡ false)) ⌝ }
 {
     let line = told.to_string(heap)?;
-    Ok(Report { line, accepted: false })
+    Ok(Report {
+        line,
+        accepted: false,
+    })
 }
 
 // What comes of a list's text.

@@ -14,8 +14,9 @@ use Rattle.std.specs.declared.option.Option.{Option}
 use Rattle.std.specs.declared.option.Option.the-variants.{Some, None}
 use Rattle.std.proofs.shelf.Equals.{sameBytes-decides}
 use Rattle.std.proofs.shelf.Lists.{drop-more, take-more, drop-all, take-rest, take-append-drop}
-use Rattle.std.proofs.shelf.Tests.{ne-eqb, false≢true}
+use Rattle.std.proofs.shelf.Tests.{eqb-true, eqb-false, ne-eqb, false≢true}
 use Rattle.numeral.specs.Numerals.{natural}
+use Rattle.character.specs.Classes.{is-comma}
 use Rattle.token.specs.Tokens.{Tok, unknown, before, after, pair-or}
 use Rattle.token.specs.Reads.{known}
 
@@ -74,3 +75,10 @@ the-pair bs i l h front back g c =
 
 pub tested : (xs ys : List ℕ) (r : Bool) → Decides r (xs ≡ ys) → r ≡ sameBytes xs ys
 tested xs ys r h = search (needs, sameBytes-decides)
+
+-- what the test for a comma says
+pub is-no-comma : (b : ℕ) → false ≡ is-comma b → b ≡ 44 → ⊥
+is-no-comma b h = eqb-false b 44 (sym h)
+
+pub is-the-comma : (b : ℕ) → true ≡ is-comma b → b ≡ 44
+is-the-comma b h = eqb-true b 44 (sym h)

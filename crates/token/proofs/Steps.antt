@@ -7,7 +7,7 @@ use native.Mathlib.Numerals.{add-one}
 use native.Mathlib.Omega.{arith}
 use lib.ListN.{length, getD, take, drop, length-drop}
 use Rattle.std.proofs.shelf.Lists.{drop-more, drop-drop, at-drop-all, length-take-le}
-use Rattle.token.specs.Chars.{is-separator}
+use Rattle.character.specs.Classes.{is-separator}
 use Rattle.token.specs.Cuts.{Part, parts-of, extend}
 use Rattle.token.specs.Runs.{run-length}
 

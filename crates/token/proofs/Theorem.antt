@@ -7,7 +7,7 @@ use native.Mathlib.Numerals.{add-one}
 use native.Mathlib.Omega.{arith}
 use lib.ListN.{length}
 use Rattle.std.proofs.shelf.Tests.{false≢true}
-use Rattle.token.specs.Chars.{is-separator}
+use Rattle.character.specs.Classes.{is-separator}
 use Rattle.token.specs.Cuts.{Part, Cut, none, skip, take, Unbroken, Stops, parts-of, extend, glue, Parts-are-the-cut}
 
 -- does the text begin with a byte that is no separator?
@@ -28,6 +28,7 @@ holds p (c ∷ cs) = by (is-separator c) refl (holds (suc p) cs)
   where
     one : (ds : List ℕ) (ps : List Part) → is-separator c ≡ false → Stops ds → Cut (suc p) ds ps → Cut p (c ∷ ds) (record { place = p; bytes = c ∷ [] } ∷ ps)
     one ds ps h s k = take {cs = []} (h, tt) s (subst (λ n. Cut n ds ps) (sym (add-one p)) k)
+
     joined : (ds : List ℕ) (ps : List Part) → is-separator c ≡ false → Cut (suc p) ds ps → Cut p (c ∷ ds) (glue p c ds ps)
     joined [] ps h k = one [] ps h tt k
     joined (d ∷ ds) ps h k = next (is-separator d) refl
@@ -35,6 +36,7 @@ holds p (c ∷ cs) = by (is-separator c) refl (holds (suc p) cs)
         next : (b : Bool) → is-separator d ≡ b → Cut p (c ∷ d ∷ ds) (glue p c (d ∷ ds) ps)
         next true e = rw e (one (d ∷ ds) ps h e k)
         next false e = rw e (longer (suc p) p c (d ∷ ds) ps k refl (rw e refl) h)
+
     by : (b : Bool) → is-separator c ≡ b → Cut (suc p) cs (parts-of (suc p) cs) → Cut p (c ∷ cs) (parts-of p (c ∷ cs))
     by true e k = rw e (skip e k)
     by false e k = rw e (joined cs (parts-of (suc p) cs) e k)

@@ -31,7 +31,8 @@ passed (pair g c) p o h = refl
 passed unknown p o h = absurd (false≢true h)
 
 pub turn : (e : Edition) (w : Part) (p : Placed) (us vs : List Placed) (xs rest whole : List Part) → us ≡ vs ++ (p ∷ []) → xs ≡ w ∷ rest → seen-of p ≡ seen e w → part-of p ≡ w → known (tok-of e (w .bytes)) ≡ true → map seen-of vs ++ map (seen e) xs ≡ map (seen e) whole → map part-of vs ++ xs ≡ whole → first-unknown (map (seen e) xs) ≡ first-unknown (map (seen e) whole) → (map seen-of us ++ map (seen e) rest ≡ map (seen e) whole) × (map part-of us ++ rest ≡ whole) × (first-unknown (map (seen e) rest) ≡ first-unknown (map (seen e) whole))
-turn e w p us vs xs rest whole more begins s k h seens parts first =
-    ( pushed seen-of us vs p (seen e w) (map (seen e) rest) (map (seen e) whole) more s (ap (λ ys. map seen-of vs ++ map (seen e) ys) (sym begins) ∙ seens)
-    , pushed part-of us vs p w rest whole more k (ap (λ ys. map part-of vs ++ ys) (sym begins) ∙ parts)
-    , sym (passed (tok-of e (w .bytes)) (w .place) (first-unknown (map (seen e) rest)) h) ∙ ap (λ ys. first-unknown (map (seen e) ys)) (sym begins) ∙ first)
+turn e w p us vs xs rest whole more begins s k h seens parts first = (
+  pushed seen-of us vs p (seen e w) (map (seen e) rest) (map (seen e) whole) more s (ap (λ ys. map seen-of vs ++ map (seen e) ys) (sym begins) ∙ seens),
+  pushed part-of us vs p w rest whole more k (ap (λ ys. map part-of vs ++ ys) (sym begins) ∙ parts),
+  sym (passed (tok-of e (w .bytes)) (w .place) (first-unknown (map (seen e) rest)) h) ∙ ap (λ ys. first-unknown (map (seen e) ys)) (sym begins) ∙ first,
+)

@@ -4,7 +4,7 @@ use mathlib.Core.Bool.{Bool, true, false, cond}
 use mathlib.Core.List.{List, [], _∷_, _++_}
 use Prim.Native.Nat.{ℕ, suc, _+_}
 use lib.ListN.{length}
-use Rattle.token.specs.Chars.{is-separator}
+use Rattle.character.specs.Classes.{is-separator}
 
 -- a part of a text: its bytes, and the place of the first
 pub record Part : Type 0 where
@@ -26,7 +26,7 @@ pub data Cut : ℕ → List ℕ → List Part → Type 0 where
   none : {p : ℕ} → Cut p [] []
   skip : {p c : ℕ} {cs : List ℕ} {ps : List Part} → is-separator c ≡ true → Cut (suc p) cs ps → Cut p (c ∷ cs) ps
   take : {p c : ℕ} {cs rest : List ℕ} {ps : List Part} → Unbroken (c ∷ cs) → Stops rest → Cut (p + length (c ∷ cs)) rest ps
-    → Cut p ((c ∷ cs) ++ rest) (record { place = p; bytes = c ∷ cs } ∷ ps)
+      → Cut p ((c ∷ cs) ++ rest) (record { place = p; bytes = c ∷ cs } ∷ ps)
 
 -- the byte c at place p goes in front of the part that begins at the next place
 abbrev pub extend : ℕ → ℕ → List Part → List Part

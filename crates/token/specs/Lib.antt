@@ -1,4 +1,3 @@
-pub mod Chars
 pub mod Cuts
 pub mod Runs
 pub mod Tokens

@@ -7,7 +7,7 @@ use lib.ListN.{length, drop}
 use Rattle.std.specs.declared.option.Option.{Option}
 use Rattle.std.specs.declared.option.Option.the-variants.{Some, None}
 use Rattle.token.specs.declared.cut.Piece.{Piece}
-use Rattle.token.specs.Chars.{is-separator}
+use Rattle.character.specs.Classes.{is-separator}
 use Rattle.token.specs.Cuts.{Part, parts-of}
 
 -- how many bytes in front are no separators

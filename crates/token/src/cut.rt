@@ -3,11 +3,10 @@ ghost use mathlib.Core.Path.{_≡_};
 ghost use mathlib.Core.Bool.{false};
 ghost use Prim.Native.Nat.{_+_, _≤_, _<_};
 ghost use lib.ListN.{length, getD, drop};
-ghost use Rattle.token.specs.Chars.{is-separator};
+ghost use Rattle.character.specs.Classes.{is-separator};
 ghost use Rattle.token.specs.Cuts.{parts-of, Parts-are-the-cut};
 ghost use Rattle.token.specs.Runs.{run-length, NextPart};
-use crate::class::Class;
-use crate::class::class_of;
+use character::is_separator;
 
 // A part of a text: its bytes, the place of the first, and the place behind the last.
 #[derive(Clone, Copy)]
@@ -17,15 +16,6 @@ pub(crate) struct Piece<'a> {
     pub end: usize,
 }
 
-fn separates(b: u8) -> bool
-    ensures { λ r. ⌜ r ≡ is-separator b ⌝ }
-{
-    match class_of(char::from(b)) {
-        Class::Separator => true,
-        _ => false,
-    }
-}
-
 // The place of the first byte at or after `from` that is no separator, or the end.
 fn skip_separators(text: &[u8], from: usize) -> usize
     ensures same { λ r. ⌜ parts-of from (drop from (now (text .entry))) ≡ parts-of r (drop r (now (text .entry))) ⌝ }
@@ -33,7 +23,7 @@ fn skip_separators(text: &[u8], from: usize) -> usize
     ensures stops { λ r. ⌜ (r < length (now (text .entry)) → is-separator (getD (now (text .entry)) r 0) ≡ false) ⌝ }
 {
     let mut i = from;
-    while i < text.len() && separates(text[i]) {
+    while i < text.len() && is_separator(text[i]) {
         i += 1;
     }
     i
@@ -46,7 +36,7 @@ fn run_end(text: &[u8], from: usize) -> usize
     ensures within { λ r. ⌜ (from ≤ length (now (text .entry)) → r ≤ length (now (text .entry))) ⌝ }
 {
     let mut i = from;
-    while i < text.len() && !separates(text[i]) {
+    while i < text.len() && !is_separator(text[i]) {
         i += 1;
     }
     i
@@ -62,5 +52,9 @@ pub(crate) fn next_part<'a>(text: &'a [u8], from: usize) -> Option<Piece<'a>>
         return None;
     }
     let end = run_end(text, place);
-    Some(Piece { bytes: &text[place..end], place, end })
+    Some(Piece {
+        bytes: &text[place..end],
+        place,
+        end,
+    })
 }

@@ -10,9 +10,10 @@ ghost use Rattle.token.specs.Cuts.{Parts-are-the-cut};
 ghost use Rattle.token.specs.Tokens.{tok-of, pair-or, before, after};
 ghost use Rattle.token.specs.Reads.{Reads, ReadsPart, Tokenized};
 ghost use Rattle.token.specs.declared.token.TokenRefusal.the-variants.{NoMemory};
-use catalogue::Block;
 use crate::cut::Piece;
 use crate::cut::next_part;
+use catalogue::Block;
+use character::is_comma;
 use item::mnemonic::Mnemonic;
 use numeral::is_natural;
 use numeral::is_number;
@@ -71,7 +72,7 @@ fn comma_at(part: &[u8]) -> usize
     ensures comma { λ r. ⌜ (r < length (now (part .entry)) → getD (now (part .entry)) r 0 ≡ 44) ⌝ }
 {
     let mut i = 0;
-    while i < part.len() && part[i] != b',' {
+    while i < part.len() && !is_comma(part[i]) {
         i += 1;
     }
     i
@@ -120,13 +121,20 @@ fn read_part<'a>(edition: Edition, part: Piece<'a>) -> Result<Placed<'a>, TokenR
     ensures { λ r. ⌜ ReadsPart edition (part .entry) r ⌝ }
 {
     match token_of(edition, part.bytes) {
-        Some(token) => Ok(Placed { token, place: part.place }),
+        Some(token) => Ok(Placed {
+            token,
+            place: part.place,
+        }),
         None => Err(TokenRefusal::Unknown { place: part.place }),
     }
 }
 
 // The tokens of a text in order, or the place of the first part that is no token.
-pub fn tokens<'a>(heap: Global, edition: Edition, text: &'a [u8]) -> Result<Vec<Placed<'a>>, TokenRefusal>
+pub fn tokens<'a>(
+    heap: Global,
+    edition: Edition,
+    text: &'a [u8],
+) -> Result<Vec<Placed<'a>>, TokenRefusal>
     ensures read { λ r. ⌜ Tokenized edition (now (text .entry)) r ⌝ }
     ensures cut { λ _. ⌜ Parts-are-the-cut ⌝ }
 {

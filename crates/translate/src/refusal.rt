@@ -27,10 +27,22 @@ impl Refusal {
         ensures { λ r. ⌜ r ≡ told-of self ⌝ }
     {
         match self {
-            Refusal::Unknown(place) => Some(Told { question: 19, place }),
-            Refusal::Misplaced(place) => Some(Told { question: 20, place }),
-            Refusal::TooMany => Some(Told { question: 21, place: 0 }),
-            Refusal::TooLong => Some(Told { question: 22, place: 0 }),
+            Refusal::Unknown(place) => Some(Told {
+                question: 19,
+                place,
+            }),
+            Refusal::Misplaced(place) => Some(Told {
+                question: 20,
+                place,
+            }),
+            Refusal::TooMany => Some(Told {
+                question: 21,
+                place: 0,
+            }),
+            Refusal::TooLong => Some(Told {
+                question: 22,
+                place: 0,
+            }),
             Refusal::NoMemory => None,
         }
     }

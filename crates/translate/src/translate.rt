@@ -23,7 +23,11 @@ fn parse(heap: Global, edition: Edition, text: &[u8]) -> Result<Program, Refusal
     Ok(program)
 }
 
-fn write_program(edition: Edition, program: &Program, buffer: &mut [u16]) -> Result<Written, Refusal>
+fn write_program(
+    edition: Edition,
+    program: &Program,
+    buffer: &mut [u16],
+) -> Result<Written, Refusal>
     ensures answer { λ r. ⌜ r ≡ answer-for edition (program-of (now (program .entry))) (length (now (buffer .entry))) ⌝ }
     ensures left { λ r. ⌜ now (buffer .exit) ≡ left-by r (image-of edition (program-of (now (program .entry)))) (now (buffer .entry)) ⌝ }
 {
@@ -33,7 +37,12 @@ fn write_program(edition: Edition, program: &Program, buffer: &mut [u16]) -> Res
 
 // Translates a text: its image stands first in the buffer, and the rest is as before.
 // A refusal leaves the whole buffer as it was.
-pub fn translate(heap: Global, edition: Edition, text: &[u8], buffer: &mut [u16]) -> Result<Written, Refusal>
+pub fn translate(
+    heap: Global,
+    edition: Edition,
+    text: &[u8],
+    buffer: &mut [u16],
+) -> Result<Written, Refusal>
     ensures answer { λ r. ⌜ Answers r (answer-for edition (translation-of edition (now (text .entry))) (length (now (buffer .entry)))) ⌝ }
     ensures left { λ r. ⌜ now (buffer .exit) ≡ left-by r (image-of edition (translation-of edition (now (text .entry)))) (now (buffer .entry)) ⌝ }
 {

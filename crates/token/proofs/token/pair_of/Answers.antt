@@ -13,8 +13,8 @@ returns-then-is-natural-2 c =
 pub returns-else-is-natural : need.returns-else-is-natural
 returns-else-is-natural c =
     elim (c .else-is-natural .came) [
-      else-is-natural·by·then-is-natural·else-is-natural-2 w ↦
-        no-channel-after (c .args .part .now) (c .comma-at-comma .result) (c .comma-at-comma .ensures .back) (w .if-is-natural-2 .ensures tt)
-    | else-is-natural·by·else-is-natural w ↦
-        no-group-before (c .args .part .now) (c .comma-at-comma .result) (c .comma-at-comma .ensures .front) (w .if-is-natural .ensures tt)
+      | else-is-natural·by·then-is-natural·else-is-natural-2 w ↦
+          no-channel-after (c .args .part .now) (c .comma-at-comma .result) (c .comma-at-comma .ensures .back) (w .if-is-natural-2 .ensures tt)
+      | else-is-natural·by·else-is-natural w ↦
+          no-group-before (c .args .part .now) (c .comma-at-comma .result) (c .comma-at-comma .ensures .front) (w .if-is-natural .ensures tt)
     ]
