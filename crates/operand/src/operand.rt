@@ -134,13 +134,6 @@ impl Operand {
         code_at(self.kind, self.place())
     }
 
-    // Whether the edition has the operand.
-    pub fn is_in(self, edition: Edition) -> bool
-        ensures { λ r. ⌜ r ≡ in-range edition self ⌝ }
-    {
-        self.channel <= 15 && in_ranges(edition.ranges(), self.kind, self.place())
-    }
-
     // Whether a list may write the operand.
     pub fn is_writable(self) -> bool
         ensures { λ r. ⌜ r ≡ may-write self ⌝ }

@@ -1,6 +1,7 @@
 // The translator.
 ghost use lib.ListN.{length};
 ghost use mathlib.Core.Path.{_≡_};
+ghost use Rattle.translate.specs.Law.{Translates-what-is-written};
 ghost use Rattle.translate.specs.Translation.{program-of, translation-of, answer-for, image-of, left-by, Answers, Parses};
 use crate::refusal::Refusal;
 use crate::refusal::RefusalFromRead;
@@ -21,6 +22,14 @@ fn parse(heap: Global, edition: Edition, text: &[u8]) -> Result<Program, Refusal
     let tokens = tokens(heap, edition, text)?;
     let program = read(heap, edition, &tokens, text.len())?;
     Ok(program)
+}
+
+// The list that a text writes.
+fn written_by(heap: Global, edition: Edition, text: &[u8]) -> Result<Program, Refusal>
+    ensures read { λ r. ⌜ Parses (translation-of edition (now (text .entry))) r ⌝ }
+    ensures law { λ _. ⌜ Translates-what-is-written edition (now (text .entry)) ⌝ }
+{
+    parse(heap, edition, text)
 }
 
 fn write_program(
@@ -45,7 +54,8 @@ pub fn translate(
 ) -> Result<Written, Refusal>
     ensures answer { λ r. ⌜ Answers r (answer-for edition (translation-of edition (now (text .entry))) (length (now (buffer .entry)))) ⌝ }
     ensures left { λ r. ⌜ now (buffer .exit) ≡ left-by r (image-of edition (translation-of edition (now (text .entry)))) (now (buffer .entry)) ⌝ }
+    ensures law { λ _. ⌜ Translates-what-is-written edition (now (text .entry)) ⌝ }
 {
-    let program = parse(heap, edition, text)?;
+    let program = written_by(heap, edition, text)?;
     write_program(edition, &program, buffer)
 }

@@ -1,0 +1,4 @@
+pub mod Ranges
+pub mod Complete
+pub mod Wanted
+pub mod Sound
