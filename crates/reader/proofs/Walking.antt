@@ -14,12 +14,12 @@ use Rattle.item.specs.declared.item.Item.{Item}
 use Rattle.image.specs.declared.constant.Constant.{Constant}
 use Rattle.token.specs.Reads.{meaning, seen-of}
 use Rattle.token.specs.declared.token.Placed.{Placed}
-use Rattle.reader.specs.declared.number.Misfit.{Misfit}
-use Rattle.reader.specs.declared.state.Step.{Step}
-use Rattle.reader.specs.Fits.{fitting}
-use Rattle.reader.specs.Steps.{next-step, may-end}
+use Rattle.follow.specs.declared.number.Misfit.{Misfit}
+use Rattle.follow.specs.declared.state.Step.{Step}
+use Rattle.follow.specs.Fits.{fitting}
+use Rattle.follow.specs.Steps.{next-step, may-end}
 use Rattle.reader.specs.Reading.{Read, Outcome, list, misfit, stepped, items-after, constants-after, go-on, ended, read-on}
-use Rattle.reader.proofs.Fitted.{fitted, unfitted}
+use Rattle.follow.proofs.Fitted.{fitted, unfitted}
 
 abbrev next-of : Edition → Read → Placed → Option Step
 next-of e r p = next-step e (r .state) (meaning (p .token))

@@ -14,15 +14,15 @@ use Rattle.item.specs.declared.item.Item.{Item}
 use Rattle.item.specs.declared.item.Item.the-variants.{Call}
 use Rattle.image.specs.declared.constant.Constant.{Constant}
 use Rattle.token.specs.Tokens.{Seen}
-use Rattle.reader.specs.declared.state.State.{State}
-use Rattle.reader.specs.declared.state.Asks.the-variants.{Entry}
-use Rattle.reader.specs.declared.state.Put.{Put}
-use Rattle.reader.specs.declared.state.Put.the-variants as Put
-use Rattle.reader.specs.declared.state.Step.{Step}
+use Rattle.follow.specs.declared.state.State.{State}
+use Rattle.follow.specs.declared.state.Asks.the-variants.{Entry}
+use Rattle.follow.specs.declared.state.Put.{Put}
+use Rattle.follow.specs.declared.state.Put.the-variants as Put
+use Rattle.follow.specs.declared.state.Step.{Step}
 use Rattle.reader.specs.declared.read.Program.{Program}
 use Rattle.reader.specs.declared.read.ReadRefusal.{ReadRefusal}
 use Rattle.reader.specs.declared.read.ReadRefusal.the-variants.{Misplaced, NoMemory}
-use Rattle.reader.specs.Steps.{next-step, may-end}
+use Rattle.follow.specs.Steps.{next-step, may-end}
 
 -- what was read so far
 pub record Read : Type 0 where

@@ -12,8 +12,8 @@ use Rattle.item.specs.declared.item.Item.{Item}
 use Rattle.item.specs.declared.item.Item.the-variants as Item
 use Rattle.image.specs.declared.constant.Constant.{Constant}
 use Rattle.token.specs.Tokens.{word, Seen}
-use Rattle.reader.specs.declared.state.Asks.{Asks}
-use Rattle.reader.specs.declared.state.Asks.the-variants as Asks
+use Rattle.follow.specs.declared.state.Asks.{Asks}
+use Rattle.follow.specs.declared.state.Asks.the-variants as Asks
 use Rattle.reader.specs.Reading.{Read, list, read-on, unread}
 use Rattle.writing.specs.Texts.{at, Alone, Constants, Writes}
 use Rattle.writing.proofs.Ranges.{in-range, all-but-last, one-less}

@@ -21,13 +21,13 @@ use Rattle.item.specs.declared.item.Item.the-variants as Item
 use Rattle.image.specs.declared.constant.Constant.{Constant}
 use Rattle.numeral.specs.Numerals.{Written, plain, minus}
 use Rattle.token.specs.Tokens.{Tok, word, letters, block, define, number, pair, unknown, Seen}
-use Rattle.reader.specs.declared.state.Asks.{Asks}
-use Rattle.reader.specs.declared.state.Asks.the-variants as Asks
-use Rattle.reader.specs.declared.state.Role.{Role}
-use Rattle.reader.specs.declared.state.Role.the-variants as For
-use Rattle.reader.specs.declared.state.State.{State}
-use Rattle.reader.specs.declared.state.Step.{Step}
-use Rattle.reader.specs.Steps.{constant-kind, constant-fits, least, most, word-bits, begun, entry, after-call, call-number, term, target, address, direct, mark, constant, defined, valued, asked}
+use Rattle.follow.specs.declared.state.Asks.{Asks}
+use Rattle.follow.specs.declared.state.Asks.the-variants as Asks
+use Rattle.follow.specs.declared.state.Role.{Role}
+use Rattle.follow.specs.declared.state.Role.the-variants as For
+use Rattle.follow.specs.declared.state.State.{State}
+use Rattle.follow.specs.declared.state.Step.{Step}
+use Rattle.follow.specs.Steps.{constant-kind, constant-fits, least, most, word-bits, begun, entry, after-call, call-number, term, target, address, direct, mark, constant, defined, valued, asked}
 use Rattle.reader.specs.Reading.{Read, Outcome, list, misfit, go-on, stepped, ended, items-after, constants-after, read-on, unread}
 use Rattle.writing.specs.Texts.{at, Alone, Constants, Writes}
 use Rattle.writing.proofs.Ranges.{all-but-last, one-less}

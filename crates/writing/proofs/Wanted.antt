@@ -16,7 +16,7 @@ use Rattle.item.specs.declared.item.Item.{Item}
 use Rattle.item.specs.declared.item.Item.the-variants.{Call}
 use Rattle.numeral.specs.Numerals.{Written, plain, value-of}
 use Rattle.token.specs.Tokens.{Tok, word, letters, block, define, number, pair, unknown, Seen}
-use Rattle.reader.specs.Steps.{kind-in, operand-in, value-in}
+use Rattle.follow.specs.Steps.{kind-in, operand-in, value-in}
 use Rattle.writing.specs.Texts.{at, From-to}
 use Rattle.writing.proofs.Ranges.{range-of}
 

@@ -10,8 +10,8 @@ use Rattle.token.specs.Tokens.{Tok, pair-or}
 use Rattle.token.specs.Reads.{meaning}
 use Rattle.token.specs.declared.token.Token.{Token}
 use Rattle.token.specs.declared.token.Token.the-variants.{Operator, Letters, Block, Define, Number, Pair}
-use Rattle.reader.specs.declared.state.State.{State}
-use Rattle.reader.specs.Steps.{entry, after-call}
+use Rattle.follow.specs.declared.state.State.{State}
+use Rattle.follow.specs.Steps.{entry, after-call}
 
 pair-no-number : (s : State) (g c : Option ℕ) → entry s (pair-or g c) ≡ after-call s (pair-or g c)
 pair-no-number s None c = refl

@@ -1,8 +1,8 @@
 use mathlib.Core.Path.{sym, ap, _∙_}
-use Rattle.reader.specs.Fits.{fitting}
-use Rattle.reader.specs.Steps.{address}
-use Rattle.reader.proofs.Fitted.{fitted}
-use Rattle.reader.proofs.step.read_address.Needs as need
+use Rattle.follow.specs.Fits.{fitting}
+use Rattle.follow.specs.Steps.{address}
+use Rattle.follow.proofs.Fitted.{fitted}
+use Rattle.follow.proofs.step.read_address.Needs as need
 
 pub returns : need.returns
 returns c =

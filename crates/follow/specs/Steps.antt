@@ -27,14 +27,14 @@ use Rattle.item.specs.declared.item.Item.the-variants as Item
 use Rattle.numeral.specs.Numerals.{Written, plain, minus, within}
 use Rattle.image.specs.declared.constant.Constant.{Constant}
 use Rattle.token.specs.Tokens.{Tok, word, letters, block, define, number, pair, unknown}
-use Rattle.reader.specs.declared.state.Asks.{Asks}
-use Rattle.reader.specs.declared.state.Asks.the-variants as Asks
-use Rattle.reader.specs.declared.state.Role.{Role}
-use Rattle.reader.specs.declared.state.Role.the-variants as For
-use Rattle.reader.specs.declared.state.State.{State}
-use Rattle.reader.specs.declared.state.Put.{Put}
-use Rattle.reader.specs.declared.state.Put.the-variants as Put
-use Rattle.reader.specs.declared.state.Step.{Step}
+use Rattle.follow.specs.declared.state.Asks.{Asks}
+use Rattle.follow.specs.declared.state.Asks.the-variants as Asks
+use Rattle.follow.specs.declared.state.Role.{Role}
+use Rattle.follow.specs.declared.state.Role.the-variants as For
+use Rattle.follow.specs.declared.state.State.{State}
+use Rattle.follow.specs.declared.state.Put.{Put}
+use Rattle.follow.specs.declared.state.Put.the-variants as Put
+use Rattle.follow.specs.declared.state.Step.{Step}
 
 -- a token that only asks something of the next one
 abbrev pub asking : State → Asks → Step

@@ -5,10 +5,10 @@ use mir.Val.{SFits}
 use Rattle.std.specs.declared.result.Result.the-variants.{Ok}
 use Rattle.std.proofs.shelf.Signed.{toZ-ofZ}
 use Rattle.token.specs.Reads.{meaning}
-use Rattle.reader.specs.Fits.{fitting}
-use Rattle.reader.specs.Steps.{valued, value-in, least, most}
-use Rattle.reader.proofs.Fitted.{fitted}
-use Rattle.reader.proofs.step.read_constant_value.Needs as need
+use Rattle.follow.specs.Fits.{fitting}
+use Rattle.follow.specs.Steps.{valued, value-in, least, most}
+use Rattle.follow.proofs.Fitted.{fitted}
+use Rattle.follow.proofs.step.read_constant_value.Needs as need
 
 pub returns : need.returns
 returns c =

@@ -6,8 +6,8 @@ use Rattle.std.specs.declared.option.Option.{Option}
 use Rattle.std.specs.declared.option.Option.the-variants.{Some, None}
 use Rattle.std.specs.declared.result.Result.{Result}
 use Rattle.std.specs.declared.result.Result.the-variants.{Ok, Err}
-use Rattle.reader.specs.declared.number.Misfit.{Misfit}
-use Rattle.reader.specs.Fits.{fitting}
+use Rattle.follow.specs.declared.number.Misfit.{Misfit}
+use Rattle.follow.specs.Fits.{fitting}
 
 pub fitted : {X : Type 0} (place : ℕ) (o : Option X) (x : X) → Ok x ≡ fitting place o → o ≡ Some x
 fitted place None x h = let z : _≡_ {A = ℕ} 0 1 = cc in absurd (omega arith)

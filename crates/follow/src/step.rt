@@ -2,8 +2,8 @@
 ghost use lib.IntN.{pos, negsuc};
 ghost use lib.Signed.{_≤ℤ_};
 ghost use mathlib.Core.Path.{_≡_};
-ghost use Rattle.reader.specs.Fits.{fitting};
-ghost use Rattle.reader.specs.Steps.{asking, item-done, pin-done, begun, named, entry, after-call, target, kind-in, used, above, constant-fits, term, reserved, constant-kind, constant, constant-done, defined, valued, least, most, asked, next-step, value-in, word-bits, direct, mark, operand-in, address};
+ghost use Rattle.follow.specs.Fits.{fitting};
+ghost use Rattle.follow.specs.Steps.{asking, item-done, pin-done, begun, named, entry, after-call, target, kind-in, used, above, constant-fits, term, reserved, constant-kind, constant, constant-done, defined, valued, least, most, asked, next-step, value-in, word-bits, direct, mark, operand-in, address};
 ghost use Rattle.operand.specs.Codes.{code-of};
 ghost use Rattle.operand.specs.Kinds.{size-of};
 ghost use Rattle.numeral.specs.Numerals.{written-as};
