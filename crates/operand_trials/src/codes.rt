@@ -36,7 +36,6 @@ fn check_operand(operand: Operand, code: u16) -> Result<(), Fail> {
     check_eq(operand.place(), place)?;
     check_eq(operand.group as u16, place / 16)?;
     check_eq(operand.channel as u16, place % 16)?;
-    check(operand.is_in(Edition::Series90))?;
     check_eq(operand.is_writable(), is_writable(code / 4096, place))
 }
 
