@@ -2,7 +2,7 @@
 ghost use lib.ListN.{length};
 ghost use mathlib.Core.Path.{_≡_};
 ghost use Rattle.translate.specs.Law.{Translates-what-is-written};
-ghost use Rattle.translate.specs.Translation.{program-of, translation-of, answer-for, image-of, left-by, Answers, Parses};
+ghost use Rattle.translate.specs.Translation.{program-of, translation-of, due-for, image-of, left-by, Answers, Parses};
 use crate::refusal::Refusal;
 use crate::refusal::RefusalFromRead;
 use crate::refusal::RefusalFromToken;
@@ -37,7 +37,7 @@ fn write_program(
     program: &Program,
     buffer: &mut [u16],
 ) -> Result<Written, Refusal>
-    ensures answer { λ r. ⌜ r ≡ answer-for edition (program-of (now (program .entry))) (length (now (buffer .entry))) ⌝ }
+    ensures answer { λ r. ⌜ Answers r (due-for edition (program-of (now (program .entry))) (length (now (buffer .entry)))) ⌝ }
     ensures left { λ r. ⌜ now (buffer .exit) ≡ left-by r (image-of edition (program-of (now (program .entry)))) (now (buffer .entry)) ⌝ }
 {
     let written = write(edition, &program.items, &program.constants, buffer)?;
@@ -52,7 +52,7 @@ pub fn translate(
     text: &[u8],
     buffer: &mut [u16],
 ) -> Result<Written, Refusal>
-    ensures answer { λ r. ⌜ Answers r (answer-for edition (translation-of edition (now (text .entry))) (length (now (buffer .entry)))) ⌝ }
+    ensures answer { λ r. ⌜ Answers r (due-for edition (translation-of edition (now (text .entry))) (length (now (buffer .entry)))) ⌝ }
     ensures left { λ r. ⌜ now (buffer .exit) ≡ left-by r (image-of edition (translation-of edition (now (text .entry)))) (now (buffer .entry)) ⌝ }
     ensures law { λ _. ⌜ Translates-what-is-written edition (now (text .entry)) ⌝ }
 {
