@@ -1,8 +1,10 @@
 -- Which operands there are: ranges of places of a kind, by edition.
-use mathlib.Core.Bool.{Bool, true, false, _&&_, _||_}
+use mathlib.Core.Bool.{Bool, true, false, cond, _&&_, _||_}
 use mathlib.Core.List.{List, [], _∷_}
 use Prim.Native.Nat.{ℕ, _+_, _*_}
-use lib.Dec.{leb}
+use lib.Dec.{eqb, leb}
+use Rattle.std.specs.declared.option.Option.{Option}
+use Rattle.std.specs.declared.option.Option.the-variants.{Some, None}
 use Rattle.operand.specs.declared.kind.Kind.{Kind}
 use Rattle.operand.specs.declared.kind.Kind.the-variants.{Input, Output, Marker, Step, Constant, InputWord, OutputWord, MarkerWord, ConstantWord, MarkerDouble, ConstantDouble}
 use Rattle.operand.specs.declared.edition.Edition.{Edition}
@@ -13,6 +15,10 @@ use Rattle.operand.specs.Kinds.{same-kind}
 -- the number that an image's trailer has for the edition
 abbrev pub edition-number : Edition → ℕ
 edition-number Series90 = 90
+
+-- the edition with a number, if there is one
+abbrev pub edition-numbered : ℕ → Option Edition
+edition-numbered n = cond (eqb n 90) (Some Series90) None
 
 -- the channels of the groups from first to last
 abbrev groups : Kind → ℕ → ℕ → Range

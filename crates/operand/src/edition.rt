@@ -1,7 +1,7 @@
 // Editions of the instruction list, and the operands that each has.
 ghost use mathlib.Core.Path.{_≡_};
 ghost use mathlib.Core.Bool.{true};
-ghost use Rattle.operand.specs.Ranges.{all-lawful, edition-number, ranges-of, series-90, any-holds, range-holds};
+ghost use Rattle.operand.specs.Ranges.{all-lawful, edition-number, edition-numbered, ranges-of, series-90, any-holds, range-holds};
 use crate::kind::Kind;
 use crate::kind::KindPartialEq;
 
@@ -88,6 +88,16 @@ impl Edition {
         ensures { λ r. ⌜ r ≡ edition-number self ⌝ }
     {
         self as u16
+    }
+
+    // The edition with that number, if there is one.
+    pub fn numbered(number: u16) -> Option<Edition>
+        ensures { λ r. ⌜ r ≡ edition-numbered number ⌝ }
+    {
+        match number {
+            90 => Some(Edition::Series90),
+            _ => None,
+        }
     }
 
     pub fn ranges(self) -> &'static [Range]

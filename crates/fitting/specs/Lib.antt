@@ -1,0 +1,5 @@
+pub mod Steps
+pub mod Depth
+pub mod Types
+pub mod Targets
+pub mod Pins

@@ -1,0 +1,3 @@
+pub mod Automata
+pub mod Words
+pub mod Pair

@@ -1,0 +1,4 @@
+// Questions that are put to one item after another.
+pub mod both;
+pub mod pass;
+pub mod rule;
