@@ -5,10 +5,6 @@ use case::try_case;
 use std::error::AnyError;
 
 mod case;
-#[cfg(test)]
-mod constants;
-#[cfg(test)]
-mod images;
 
 // Prints what came in place of what was expected.
 fn comes_out(rt: &LibcRuntime, shown: &str, case: &Case) -> Result<bool, AnyError> {

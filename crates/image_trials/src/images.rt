@@ -1,5 +1,4 @@
 // Images, word by word.
-use crate::case::BEFORE;
 use image::write::Written;
 use image::write::WrittenDebug;
 use image::write::WrittenPartialEq;
@@ -10,6 +9,9 @@ use translate::refusal::Refusal;
 use translate::refusal::RefusalDebug;
 use translate::refusal::RefusalPartialEq;
 use translate::translate::translate;
+
+// What stands in a buffer before a translation.
+const BEFORE: u16 = 0xBEEF;
 
 static SAMPLE: &str = "
 !BA 7 ESV E 00,00 KD 00,01 A 02,00
