@@ -1,5 +1,7 @@
 // Laws of the blocks over whole rows of scans, and the sums that the rules are held to.
 // Each function's contract is the law; its proof stands in `proofs/`.
+#![tactic(auto)]
+
 ghost use Rattle.block_laws.specs.Agreement.{WindowsAgree};
 ghost use Rattle.block_laws.specs.Delays.{DelaysHold};
 ghost use Rattle.block_laws.specs.Rises.{PulsesHold, CountsHold};

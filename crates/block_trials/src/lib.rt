@@ -1,4 +1,6 @@
 // Sums at their limits, and blocks worked scan by scan.
+#![tactic(auto)]
+
 #[cfg(test)]
 mod rows;
 #[cfg(test)]

@@ -1,4 +1,6 @@
 // The seven block kinds, each behind its meaning, and the working of a call by its kind.
+#![tactic(auto)]
+
 pub mod ctud;
 pub mod dispatch;
 pub mod esv;

@@ -1,4 +1,6 @@
 // A CS31 bus over a lent list of module records. The first record of a point counts.
+#![tactic(auto)]
+
 ghost use Rattle.std.specs.Prelude.{◌≡◌, ◌<◌, List, [], ◌∷◌, length, MatchOption, MatchResult};
 ghost use Rattle.bus.specs.Buses.{on_bus, bus_inside, besides, First, NoneBelow, Shown, Written, Driven};
 ghost use Rattle.bus.specs.declared.Module.{Module as AnyModule};

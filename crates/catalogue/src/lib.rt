@@ -1,5 +1,7 @@
 // The block kinds: number, name, pins in order, and history cells.
 // Translator, check and run all take them from here.
+#![tactic(auto)]
+
 ghost use Rattle.std.specs.Prelude.{◌≡◌};
 ghost use Rattle.catalogue.specs.Blocks.{number_of, block_in_90, block_numbered, name_of, pins_of, cells_of};
 

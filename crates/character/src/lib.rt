@@ -1,4 +1,6 @@
 // The classes of the characters in a list's text.
+#![tactic(auto)]
+
 ghost use Rattle.std.specs.Prelude.{◌≡◌};
 ghost use Rattle.character.specs.Classes.{class_of, is_digit, is_comma, is_separator};
 

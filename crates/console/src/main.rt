@@ -1,5 +1,7 @@
 // Reads a list's text from standard input and prints one line: what came of it.
 // Ends with status 1 where the list is refused, or where reading, memory or printing fails.
+#![tactic(auto)]
+
 use report::{Report, report_text};
 use std::io::Read;
 

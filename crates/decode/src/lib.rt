@@ -1,4 +1,6 @@
 // From the two words of an item to the typed item.
+#![tactic(auto)]
+
 ghost use Rattle.std.specs.Prelude.{◌≡◌};
 ghost use Rattle.decode.specs.Decoded.{alone, assign_item, operand_item, pin_item, kind_item, call_decoded, mark_decoded, word_decoded, nameless_decoded, item_decoded, Decodes};
 ghost use Rattle.operand.specs.Codes.{decoded};

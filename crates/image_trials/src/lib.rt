@@ -1,4 +1,6 @@
 // Images word by word, and all constants that a list can have.
+#![tactic(auto)]
+
 #[cfg(test)]
 mod constants;
 #[cfg(test)]

@@ -1,6 +1,8 @@
 // Reads a list's text from standard input and prints one line: what came of it.
 // With `--explain` two lines follow on a refusal: the question in words, and what stands at the place.
 // Ends with status 1 where the list is refused, or where reading, memory or printing fails.
+#![tactic(auto)]
+
 use explain::shown::explain;
 use operand::edition::Edition;
 use outcome::{MOST_WORDS, Report, report_text};

@@ -1,5 +1,7 @@
 // Bytes laid into a lent buffer. What finds no room is counted and not written, so that the same walk
 // over an empty buffer tells how long a text is.
+#![tactic(auto)]
+
 ghost use Rattle.std.specs.Prelude.{◌≡◌, [], ◌∷◌, decimal, slice_set};
 ghost use Rattle.lay.specs.Digits.{two_digits};
 ghost use Rattle.lay.specs.Lays.{Lays};

@@ -1,4 +1,6 @@
 // Reads lists, as texts or images, each with the line that is due for it, and tells how many of them come out so.
+#![tactic(auto)]
+
 use case::{Case, read_case};
 use trial::try_case;
 

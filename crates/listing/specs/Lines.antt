@@ -8,7 +8,7 @@ use Rattle.script.specs.Texts.{item_text, constant_text}
 use Rattle.operand.specs.declared.edition.Edition.{Edition}
 use Rattle.rule.specs.Words.{item_at}
 use Rattle.constants.specs.Lawful.{constant_at}
-use Rattle.check.specs.Verdict.{Parts}
+use Rattle.checker.specs.Verdict.{Parts}
 
 -- each line is ended by 0Ah; what is not known has none
 abbrev pub item_line : Option Item → List ℕ

@@ -4,10 +4,10 @@ use Rattle.operand.specs.declared.edition.Edition.{Edition}
 use Rattle.told.specs.declared.Told.{Told}
 use Rattle.view.specs.Trailers.{edition_in}
 use Rattle.view.specs.declared.Image.{Image}
-use Rattle.check.specs.declared.refusal.CheckRefusal.{CheckRefusal}
-use Rattle.check.specs.Refusals as Check
-use Rattle.check.specs.Verdict.{first_no, then_no, trailer_questions, known_questions, parts_of, seen}
-use Rattle.check.specs.Refusals.{no_to}
+use Rattle.checker.specs.declared.refusal.CheckRefusal.{CheckRefusal}
+use Rattle.checker.specs.Refusals as Check
+use Rattle.checker.specs.Verdict.{first_no, then_no, trailer_questions, known_questions, parts_of, seen}
+use Rattle.checker.specs.Refusals.{no_to}
 use Rattle.listing.specs.declared.refusal.ListRefusal.{ListRefusal}
 use Rattle.listing.specs.Lines.{listing_of}
 use Rattle.listing.specs.Refusals.{told_of}

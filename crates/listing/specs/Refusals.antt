@@ -1,9 +1,9 @@
 -- Each refusal of a listing: the number of the question that got a no, and the place.
 use Rattle.std.specs.Prelude.{ℕ}
 use Rattle.told.specs.declared.Told.{Told}
-use Rattle.check.specs.declared.refusal.CheckRefusal.{CheckRefusal}
-use Rattle.check.specs.Refusals.{no_to}
-use Rattle.check.specs.Refusals as Check
+use Rattle.checker.specs.declared.refusal.CheckRefusal.{CheckRefusal}
+use Rattle.checker.specs.Refusals.{no_to}
+use Rattle.checker.specs.Refusals as Check
 use Rattle.listing.specs.declared.refusal.ListRefusal.{ListRefusal}
 use Rattle.listing.specs.declared.refusal.ListRefusal.TheVariants.{NotListed, TooLong}
 

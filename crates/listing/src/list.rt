@@ -1,6 +1,6 @@
 // Listing an image into a lent buffer.
 ghost use Rattle.std.specs.Prelude.{◌≡◌, ◌+◌, ◌/◌, ◌<◌, length};
-ghost use Rattle.check.specs.Verdict.{seen};
+ghost use Rattle.checker.specs.Verdict.{seen};
 ghost use Rattle.lay.specs.Lays.{Lays};
 ghost use Rattle.listing.specs.Lines.{item_line, constant_line, item_lines, constant_lines, listing_of};
 ghost use Rattle.listing.specs.Listed.{answered, due_for, fitted, left_by, text_of, Opened};
@@ -10,8 +10,8 @@ ghost use Rattle.rule.specs.Automata.{items_of};
 ghost use Rattle.rule.specs.Words.{item_at};
 
 use crate::refusal::ListRefusal;
-use check::check::judge_known;
-use check::refusal::CheckRefusal;
+use checker::check::judge_known;
+use checker::refusal::CheckRefusal;
 use constants::decode::decode_constant;
 use decode::decode_item;
 use image::constant::Constant;

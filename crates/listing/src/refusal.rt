@@ -2,7 +2,7 @@
 ghost use Rattle.std.specs.Prelude.{◌≡◌};
 ghost use Rattle.listing.specs.Refusals.{of_check, told_of};
 
-use check::refusal::CheckRefusal;
+use checker::refusal::CheckRefusal;
 use told::Told;
 
 #[derive(Clone, Copy)]

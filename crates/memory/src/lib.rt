@@ -1,4 +1,6 @@
 // The memory of a controller: operands and history cells, sound by its type.
+#![tactic(auto)]
+
 pub mod access;
 mod keep;
 pub mod load;

@@ -1,5 +1,7 @@
 // Numbers in a text, given as bytes: digits, or a minus and digits.
 // Every number is read exactly, however many digits it has.
+#![tactic(auto)]
+
 ghost use Rattle.std.specs.Prelude.{◌≡◌, pos, neg_ℤ, is_some};
 ghost use Rattle.std.specs.Str.{all_ascii_digits};
 ghost use Rattle.numeral.specs.Numerals.{natural, plain_of, minus_of, written_as, up_to, within, digit_on, signed_of, from_to};

@@ -3,7 +3,7 @@ use Rattle.std.specs.Prelude.{◌≡◌, ℕ, Bool, true, false, List, ◌++◌,
 use Rattle.operand.specs.declared.edition.Edition.TheVariants.{Series90}
 use Rattle.told.specs.Lines.{refused_line}
 use Rattle.translate.specs.Translation.{Due, written, no, Translation, due_for, image_of, translation_of}
-use Rattle.check.specs.Verdict.{Verdict, passed, refused, verdict_of}
+use Rattle.checker.specs.Verdict.{Verdict, passed, refused, verdict_of}
 use Rattle.outcome.specs.declared.Report.{Report}
 
 -- N and H of a list that passes

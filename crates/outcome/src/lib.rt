@@ -1,10 +1,12 @@
 // The one line that the console prints of a list.
+#![tactic(auto)]
+
 ghost use Rattle.std.specs.Prelude.{◌≡◌, true, false, IfOk, Some, None, string_bytes};
-ghost use Rattle.check.specs.Verdict.{verdict_of};
+ghost use Rattle.checker.specs.Verdict.{verdict_of};
 ghost use Rattle.outcome.specs.Lines.{passed_line, Reports, ReportsVerdict};
 ghost use Rattle.told.specs.Lines.{refused_line};
 
-use check::check::{Passed, check};
+use checker::check::{Passed, check};
 use operand::edition::Edition;
 use std::alloc::{AllocError, Global};
 use std::fmt;

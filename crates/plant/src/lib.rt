@@ -1,3 +1,5 @@
 // What a controller sees of a plant, and how a plant refuses.
+#![tactic(auto)]
+
 pub mod fault;
 pub mod plant;

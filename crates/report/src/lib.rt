@@ -1,4 +1,6 @@
 // The one line that the console prints of a list.
+#![tactic(auto)]
+
 ghost use Rattle.std.specs.Prelude.{◌≡◌, true, false, IfOk, Some, string_bytes};
 ghost use Rattle.report.specs.Lines.{translated_line, Reports};
 ghost use Rattle.told.specs.Lines.{refused_line};

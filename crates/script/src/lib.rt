@@ -1,4 +1,6 @@
 // How items and constants are written, into a lent buffer.
+#![tactic(auto)]
+
 ghost use Rattle.item.specs.Mnemonics.{name_of};
 ghost use Rattle.lay.specs.Lays.{Lays};
 ghost use Rattle.script.specs.Texts.{beside, call_text, constant_text, item_text, operand_text, pair_text};

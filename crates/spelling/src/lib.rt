@@ -1,4 +1,6 @@
 // Which mnemonic, operand letters or block a run of bytes spells.
+#![tactic(auto)]
+
 ghost use Rattle.std.specs.Prelude.{◌≡◌, length};
 ghost use Rattle.std.specs.Str.{bytes_eq};
 ghost use Rattle.spelling.specs.Rule.{spellings, Rule, Back, Only};

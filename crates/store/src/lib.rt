@@ -1,4 +1,6 @@
 // The places of a controller's memory, by kind and place.
+#![tactic(auto)]
+
 pub mod access;
 pub mod chain;
 pub mod load;

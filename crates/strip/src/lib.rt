@@ -1,4 +1,6 @@
 // A terminal strip over lent words: the input of point p at word 2p, its output at 2p + 1.
+#![tactic(auto)]
+
 ghost use Rattle.std.specs.Prelude.{◌≡◌, ℕ, ◌+◌, ◌*◌, ◌<◌, [], ◌∷◌, length, MatchResult};
 ghost use Rattle.plant.specs.Points.{fault_at};
 ghost use Rattle.strip.specs.Strips.{on_strip, strip_inside, besides, Has};

@@ -1,4 +1,6 @@
 // What is told of a refusal: the number of the question that got a no, and the place.
+#![tactic(auto)]
+
 ghost use Rattle.std.specs.Prelude.{Some};
 ghost use Rattle.told.specs.Lines.{refused_line};
 

@@ -1,3 +1,5 @@
 // From the text of a list to its image.
+#![tactic(auto)]
+
 pub mod refusal;
 pub mod translate;

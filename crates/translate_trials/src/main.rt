@@ -1,4 +1,6 @@
 // Reads texts, each with the line that is to be printed of it, and tells how many of them come out so.
+#![tactic(auto)]
+
 use case::{Case, read_case, try_case};
 
 mod case;

@@ -1,4 +1,6 @@
 // A view over the words of an image.
+#![tactic(auto)]
+
 ghost use Rattle.std.specs.Prelude.{◌≡◌, ◌≤◌, true, length};
 ghost use Rattle.view.specs.Trailers.{from_end, has_trailer, sizes_fit, Opens};
 

@@ -1,4 +1,6 @@
 // The law of the text form: the reader reads exactly what a text writes.
+#![tactic(auto)]
+
 ghost use Rattle.writing.specs.Law.{ReadsWhatIsWritten};
 
 // The reader answers a list exactly where the tokens write it.

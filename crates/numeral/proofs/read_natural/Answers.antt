@@ -2,8 +2,8 @@ use Rattle.std.proofs.Common.{◌≡◌, get_or, ◌∙◌, arith}
 use Rattle.numeral.proofs.Steps.{stops, goes_on, at_end, kept}
 use Rattle.numeral.proofs.read_natural.Goals as goal
 
-pub returns-in-default : goal.returns-in-default
-returns-in-default c = stops c.args.limit c.loop-digit.value c.loop-digit.digit-index c.args.digits.now (omega arith) c.in-default.ensures ∙ c.loop-digit.invariant.1
+pub returns-in_default : goal.returns-in_default
+returns-in_default c = stops c.args.limit c.loop-digit.value c.loop-digit.digit-index c.args.digits.now (omega arith) c.in_default.ensures ∙ c.loop-digit.invariant.1
 
 pub loop-digit-preserved : goal.loop-digit-preserved
 loop-digit-preserved c = (

@@ -7,4 +7,4 @@ use Rattle.script.proofs.put_constant.Goals as goal
 pub returns : goal.returns
 returns c =
     let f : SFits w32 c.args.constant.value = search rules in
-    behind c.put-operand-sign.ensures (behind c.put-text-value.ensures (read_as (ap signed_decimal (to_z-of_z w32 c.args.constant.value f)) c.put-signed.ensures))
+    behind c.put_operand-sign.ensures (behind c.put_text-value.ensures (read_as (ap signed_decimal (to_z-of_z w32 c.args.constant.value f)) c.put_signed.ensures))

@@ -2,4 +2,4 @@ use Rattle.lay.proofs.Joins.{behind, read_as}
 use Rattle.script.proofs.put_operand.Goals as goal
 
 pub returns : goal.returns
-returns c = behind (read_as c.letters.ensures c.put-text-blank.ensures) (behind c.put-byte-pair.ensures c.put-pair.ensures)
+returns c = behind (read_as c.letters.ensures c.put_text-blank.ensures) (behind c.put_byte-pair.ensures c.put_pair.ensures)

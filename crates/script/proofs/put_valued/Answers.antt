@@ -7,4 +7,4 @@ use Rattle.script.proofs.put_valued.Goals as goal
 pub returns : goal.returns
 returns c =
     let f : SFits w32 c.args.value = c.ranges.value in
-    behind c.put-mnemonic-blank.ensures (behind c.put-byte-digits.ensures (read_as (ap signed_decimal (to_z-of_z w32 c.args.value f)) c.put-signed.ensures))
+    behind c.put_mnemonic-blank.ensures (behind c.put_byte-digits.ensures (read_as (ap signed_decimal (to_z-of_z w32 c.args.value f)) c.put_signed.ensures))

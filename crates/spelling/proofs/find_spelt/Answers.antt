@@ -9,7 +9,7 @@ returns-in-Some g c =
 
 pub loop-number-preserved : goal.loop-number-preserved
 loop-number-preserved g c =
-    miss (g.T.Spelled.entry c.args.edition) g.T.Spelled.spelt c.args.text.now c.loop-number.number (omega arith) c.in-default.ensures
+    miss (g.T.Spelled.entry c.args.edition) g.T.Spelled.spelt c.args.text.now c.loop-number.number (omega arith) c.in_default.ensures
     ∙ c.loop-number.invariant
 
 pub returns : goal.returns

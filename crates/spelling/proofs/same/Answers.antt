@@ -7,5 +7,5 @@ use Rattle.std.proofs.lemmas.Bool.Decides.{Decides-eqb}
 
 pub returns : goal.returns
 returns c =
-    tested c.args.text.now c.as-bytes.result.now c.eq.result (slice_eq-Decides Decides-eqb c.args.text.now c.as-bytes.result.now c.eq.result c.eq.ensures)
-    ∙ ap (λ (ys : List ℕ). bytes_eq c.args.text.now ys) c.as-bytes.ensures.value
+    tested c.args.text.now c.as_bytes.result.now c.eq.result (slice_eq-Decides Decides-eqb c.args.text.now c.as_bytes.result.now c.eq.result c.eq.ensures)
+    ∙ ap (λ (ys : List ℕ). bytes_eq c.args.text.now ys) c.as_bytes.ensures.value

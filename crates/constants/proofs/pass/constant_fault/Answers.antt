@@ -4,4 +4,4 @@ use Rattle.constants.proofs.pass.constant_fault.Goals as goal
 
 pub returns : goal.returns
 returns c =
-    record { first = c.find-fault.ensures; judged = λ n q. judged c.args.edition n c.args.words.now q (λ i. let f = c.type-inv.words i in omega arith) _ c.find-fault.ensures }
+    record { first = c.find_fault.ensures; judged = λ n q. judged c.args.edition n c.args.words.now q (λ i. let f = c.type_inv.words i in omega arith) _ c.find_fault.ensures }

@@ -8,12 +8,12 @@ use Rattle.explain.proofs.shown.put_shown.Goals as goal
 pub returns-then-place-items : goal.returns-then-place-items
 returns-then-place-items c =
     let past : ltb c.args.place (length c.args.items.now / 2) ≡ false = grind (arith, nat_tests) in
-    read_as (sym (cond-false _ _ _ past)) c.put-text.ensures
+    read_as (sym (cond-false _ _ _ past)) c.put_text.ensures
 
 pub returns-in-Some : goal.returns-in-Some
 returns-in-Some c =
     let there : ltb c.args.place (length c.args.items.now / 2) ≡ true = grind (arith, nat_tests) in
-    read_as (sym (cond-true _ _ _ there ∙ ap item_or_unknown (sym c.in-Some.ensures.value))) c.put-item.ensures
+    read_as (sym (cond-true _ _ _ there ∙ ap item_or_unknown (sym c.in-Some.ensures.value))) c.put_item.ensures
 
 pub returns-in-None : goal.returns-in-None
 returns-in-None c =

@@ -6,5 +6,5 @@ use Rattle.follow.proofs.step.read_address.Goals as goal
 
 pub returns : goal.returns
 returns c =
-    c.use-operand.ensures
-    ∙ ap (λ o. fitting c.args.placed.place (address c.args.state c.args.role o)) (sym (fitted _ _ _ c.in-ok-operand.ensures))
+    c.use_operand.ensures
+    ∙ ap (λ o. fitting c.args.placed.place (address c.args.state c.args.role o)) (sym (fitted _ _ _ c.in_ok-operand.ensures))

@@ -13,5 +13,5 @@ pub returns : goal.returns
 returns c =
     let items = items_of c.args.edition c.args.items.now in
     let few : 0 + length items ≤ deepest = omega (arith, few_items c.args.edition c.args.items.now) in
-    let same : c.find-fault.result ≡ first_fault grammar items = c.find-fault.ensures ∙ capped_same deepest depth_of grammar grows items Between 0 few in
+    let same : c.find_fault.result ≡ first_fault grammar items = c.find_fault.ensures ∙ capped_same deepest depth_of grammar grows items Between 0 few in
     record { first = same; judged = λ xs e. subst (Judged xs) (sym (same ∙ ap (first_fault grammar) e)) (judged xs) }

@@ -6,4 +6,4 @@ pub returns : goal.returns
 returns c =
     let n = length c.args.words.now in
     let long : (c.args.at + n) - c.args.at ≡ n = omega arith in
-    laid_part c.args.buffer.now _ _ c.args.at _ c.copy-from-slice.ensures.after long
+    laid_part c.args.buffer.now _ _ c.args.at _ c.copy_from_slice.ensures.after long

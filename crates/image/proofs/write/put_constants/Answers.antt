@@ -12,7 +12,7 @@ loop-constant-init c = (omega arith, laid_none _ _ _ constant_words_none)
 
 pub loop-constant-preserved : goal.loop-constant-preserved
 loop-constant-preserved c =
-    (omega arith, constants_step _ _ _ _ _ _ _ _ c.loop-constant-test.true c.loop-constant.invariant.0 c.requires c.loop-constant.invariant.1 c.put-constant.ensures)
+    (omega arith, constants_step _ _ _ _ _ _ _ _ c.loop-constant-test.true c.loop-constant.invariant.0 c.requires c.loop-constant.invariant.1 c.put_constant.ensures)
 
 pub returns : goal.returns
 returns c =

@@ -8,6 +8,6 @@ returns c =
     let trailer = counted_trailer c.args.edition c.args.items.now c.args.constants.now c.args.counts c.requires.long.0 c.requires.items c.requires.constants c.requires.cells in
     let room : image_length c.args.items.now c.args.constants.now ≤ length c.args.buffer.now = omega arith in
     whole_image _ _ _ c.args.counts _ _ _ _ _ _ trailer room
-    c.put-items-next.ensures.next c.put-items-next.ensures.left
-    c.put-constants-next.ensures.next c.put-constants-next.ensures.left
-    c.put-trailer.ensures
+    c.put_items-next.ensures.next c.put_items-next.ensures.left
+    c.put_constants-next.ensures.next c.put_constants-next.ensures.left
+    c.put_trailer.ensures

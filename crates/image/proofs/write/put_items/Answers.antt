@@ -12,7 +12,7 @@ loop-item-init c = (omega arith, laid_none _ _ _ item_words_none)
 
 pub loop-item-preserved : goal.loop-item-preserved
 loop-item-preserved c =
-    (omega arith, items_step _ _ _ _ _ _ _ _ c.loop-item-test.true c.loop-item.invariant.0 c.requires c.loop-item.invariant.1 c.put-item.ensures)
+    (omega arith, items_step _ _ _ _ _ _ _ _ c.loop-item-test.true c.loop-item.invariant.0 c.requires c.loop-item.invariant.1 c.put_item.ensures)
 
 pub returns : goal.returns
 returns c =

@@ -7,7 +7,7 @@ pub loop-place-init : goal.loop-place-init
 loop-place-init c = read_as (no_constants c.args.edition c.args.constants.now) (none _ c.args.from (omega arith) (omega arith))
 
 pub loop-place-preserved : goal.loop-place-preserved
-loop-place-preserved c = read_as (constant_more c.args.edition c.args.constants.now c.loop-place.place) (behind c.loop-place.invariant c.put-constant-at-at.ensures)
+loop-place-preserved c = read_as (constant_more c.args.edition c.args.constants.now c.loop-place.place) (behind c.loop-place.invariant c.put_constant_at-at.ensures)
 
 pub returns : goal.returns
 returns c = read_as (all_constants c.args.edition c.args.constants.now c.loop-place.place (omega arith)) c.loop-place.invariant

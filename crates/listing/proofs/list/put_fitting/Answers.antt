@@ -1,10 +1,10 @@
 use Rattle.std.proofs.Common.{arith}
-use Rattle.check.specs.Verdict.{seen}
+use Rattle.checker.specs.Verdict.{seen}
 use Rattle.listing.specs.Lines.{listing_of}
 use Rattle.listing.proofs.Dues.{fits}
 use Rattle.listing.proofs.list.put_fitting.Goals as goal
 
 pub returns : goal.returns
 returns c =
-    let f = fits (listing_of (seen c.args.image)) c.args.out.now _ _ c.put-listing.ensures (omega (arith, c.put-listing-needed.ensures.counts)) in
+    let f = fits (listing_of (seen c.args.image)) c.args.out.now _ _ c.put_listing.ensures (omega (arith, c.put_listing-needed.ensures.counts)) in
     record { answer = f.answer; left = f.left }

@@ -7,7 +7,7 @@ pub loop-place-init : goal.loop-place-init
 loop-place-init c = read_as (no_items c.args.edition c.args.items.now) (none _ 0 (omega arith) (omega arith))
 
 pub loop-place-preserved : goal.loop-place-preserved
-loop-place-preserved c = read_as (item_more c.args.edition c.args.items.now c.loop-place.place) (behind c.loop-place.invariant c.put-item-at-at.ensures)
+loop-place-preserved c = read_as (item_more c.args.edition c.args.items.now c.loop-place.place) (behind c.loop-place.invariant c.put_item_at-at.ensures)
 
 pub returns : goal.returns
 returns c = read_as (all_items c.args.edition c.args.items.now c.loop-place.place (omega arith)) c.loop-place.invariant

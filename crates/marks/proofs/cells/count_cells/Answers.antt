@@ -6,4 +6,4 @@ pub returns : goal.returns
 returns c =
     let n = length c.args.items.now in
     let all : min ((n + 1) / 2) (n / 2) ≡ n / 2 = omega arith in
-    c.sum-cells.ensures ∙ ap (cells_before c.args.edition c.args.items.now) all
+    c.sum_cells.ensures ∙ ap (cells_before c.args.edition c.args.items.now) all

@@ -5,4 +5,4 @@ use Rattle.marks.proofs.mark.find_mark.Goals as goal
 
 pub returns : goal.returns
 returns c =
-    record { value = c.first-mark.ensures; next = subst (Next c.args.edition c.args.items.now c.args.from c.args.mark) (sym c.first-mark.ensures) (next_exact c.args.edition c.args.items.now c.args.from c.args.mark) }
+    record { value = c.first_mark.ensures; next = subst (Next c.args.edition c.args.items.now c.args.from c.args.mark) (sym c.first_mark.ensures) (next_exact c.args.edition c.args.items.now c.args.from c.args.mark) }

@@ -6,6 +6,6 @@ pub returns : goal.returns
 returns g c =
     let ws = c.args.items.now in
     record {
-      answer = pinned (g.P.Plant.meaning c.args.plant.now) g.P.Plant.layer c.args.edition ws (length ws / 2) c.find-unfitted.result c.find-unfitted.ensures;
-      first = c.find-unfitted.ensures;
+      answer = pinned (g.P.Plant.meaning c.args.plant.now) g.P.Plant.layer c.args.edition ws (length ws / 2) c.find_unfitted.result c.find_unfitted.ensures;
+      first = c.find_unfitted.ensures;
     }

@@ -10,5 +10,5 @@ loop-place-init c = λ p l. get_or-replicate 192 p false false l ∙ sym (names_
 pub loop-place-preserved : goal.loop-place-preserved
 loop-place-preserved c = λ p l.
     c.mark.ensures p l
-    ∙ ((λ i. c.loop-place.invariant p l i || is_point c.args.side p (c.point-at.ensures i))
+    ∙ ((λ i. c.loop-place.invariant p l i || is_point c.args.side p (c.point_at.ensures i))
     ∙ sym (names_more c.args.edition c.args.items.now c.args.side p c.loop-place.place))

@@ -4,10 +4,10 @@ use Rattle.rule.specs.Words.{item_at}
 use Rattle.rule.proofs.Passing.{turn}
 use Rattle.rule.proofs.pass.advance_at.Goals as goal
 
-pub returns-in-default : goal.returns-in-default
-returns-in-default g c =
+pub returns-in_default : goal.returns-in_default
+returns-in_default g c =
     let a = g.R.Rule.automaton in
-    let e : None ≡ stepped a c.args.state (item_at c.args.edition c.args.items.now c.args.place) = ap (stepped a c.args.state) c.in-default.ensures.value in
+    let e : None ≡ stepped a c.args.state (item_at c.args.edition c.args.items.now c.args.place) = ap (stepped a c.args.state) c.in_default.ensures.value in
     record { value = e; turn = turn a c.args.edition c.args.items.now c.args.place c.args.state c.requires None e }
 
 pub returns : goal.returns

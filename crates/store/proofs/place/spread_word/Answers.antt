@@ -12,7 +12,7 @@ loop-k-preserved c =
     let first : ℕ = c.args.first in
     let word : ℕ = c.args.word in
     let k : ℕ = c.loop-k.k in (
-      c.lay-bit.ensures
+      c.lay_bit.ensures
           ∙ ap (λ (ys : List Bool). set ys (first + k) (eqb (c.loop-k.rest % 2) 1)) c.loop-k.invariant.0
           ∙ ap (λ (w : ℕ). set (spread xs first word k) (first + k) (eqb (w % 2) 1)) c.loop-k.invariant.1
           ∙ spread_more xs first word k,

@@ -3,11 +3,11 @@ use Rattle.token.proofs.Steps.{run_step, run_stop, run_none}
 use Rattle.token.proofs.cut.run_end.Goals as goal
 
 pub loop-i-preserved : goal.loop-i-preserved
-loop-i-preserved c = (run_step _ _ c.loop-i-test.true c.if-not-is-separator.ensures ∙ c.loop-i.invariant.0, omega arith, λ _. omega arith)
+loop-i-preserved c = (run_step _ _ c.loop-i-test.true c.if-not-is_separator.ensures ∙ c.loop-i.invariant.0, omega arith, λ _. omega arith)
 
-pub returns-else-not-is-separator : goal.returns-else-not-is-separator
-returns-else-not-is-separator c = record {
-  value = omega (arith, run_stop _ _ c.loop-i-test.true c.if-not-is-separator.ensures, c.loop-i.invariant.0);
+pub returns-else-not-is_separator : goal.returns-else-not-is_separator
+returns-else-not-is_separator c = record {
+  value = omega (arith, run_stop _ _ c.loop-i-test.true c.if-not-is_separator.ensures, c.loop-i.invariant.0);
   on = c.loop-i.invariant.1;
   within = c.loop-i.invariant.2;
 }

@@ -9,5 +9,5 @@ loop-part-preserved c =
     let bs = c.args.text.now in
     let w = c.in-Some.part in
     let next = c.in-Some.ensures.first in
-    let got = c.in-ok-read-part.ensures in
-    turn c.args.edition (piece_part w) c.in-ok-read-part.field-0 (vec_items c.push.new.self) (vec_items c.loop-part.tokens) (parts_of c.loop-part.from (drop c.loop-part.from bs)) (parts_of w.end (drop w.end bs)) (parts_of 0 bs) (search rules) next.0 got.0 got.1 got.2 c.loop-part.invariant.0 c.loop-part.invariant.1 c.loop-part.invariant.2
+    let got = c.in_ok-read_part.ensures in
+    turn c.args.edition (piece_part w) c.in_ok-read_part.field-0 (vec_items c.push.new.self) (vec_items c.loop-part.tokens) (parts_of c.loop-part.from (drop c.loop-part.from bs)) (parts_of w.end (drop w.end bs)) (parts_of 0 bs) (search rules) next.0 got.0 got.1 got.2 c.loop-part.invariant.0 c.loop-part.invariant.1 c.loop-part.invariant.2

@@ -6,5 +6,5 @@ use Rattle.memory.proofs.memory.Memory.cell.Goals as goal
 pub returns : goal.returns
 unfolding cell_of
 returns c =
-    let f : SFits w32 c.cell-held.result = search rules in
-    to_z-of_z w32 c.cell-held.result f ∙ c.cell-held.ensures
+    let f : SFits w32 c.cell_held.result = search rules in
+    to_z-of_z w32 c.cell_held.result f ∙ c.cell_held.ensures

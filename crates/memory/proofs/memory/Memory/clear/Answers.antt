@@ -10,5 +10,5 @@ pub returns : goal.returns
 unfolding cleared
 returns c =
     let m : Store = c.args.self.now.store in
-    let is : c.empty-groups.new.self.store ≡ cleared m c.args.kind c.args.first c.args.last = c.empty-groups.ensures in
+    let is : c.empty_groups.new.self.store ≡ cleared m c.args.kind c.args.first c.args.last = c.empty_groups.ensures in
     record { value = is; law = subst (λ (n : Store). Clears m n c.args.kind c.args.first c.args.last) (sym is) (cleared_law m (held_of c.args.self.now) c.args.kind c.args.first c.args.last) }

@@ -10,5 +10,5 @@ pub returns : goal.returns
 unfolding cells_cleared
 returns c =
     let m : Store = c.args.self.now.store in
-    let is : c.empty-cells.new.self.store ≡ cells_cleared m = c.empty-cells.ensures in
+    let is : c.empty_cells.new.self.store ≡ cells_cleared m = c.empty_cells.ensures in
     record { value = is; law = subst (λ (n : Store). ClearsCells m n) (sym is) (cells_law m (held_of c.args.self.now)) }

@@ -13,5 +13,5 @@ pub returns : goal.returns
 unfolding constant_loaded
 returns c =
     let m : Store = c.args.self.now.store in
-    let is : c.put-constant.new.self.store ≡ constant_loaded m c.args.operand c.args.value = c.put-constant.ensures ∙ ap (λ (z : ℤ). constant_at m c.args.operand.kind (place_of c.args.operand) z) (to_z-of_z w32 c.args.value c.ranges.value) in
+    let is : c.put_constant.new.self.store ≡ constant_loaded m c.args.operand c.args.value = c.put_constant.ensures ∙ ap (λ (z : ℤ). constant_at m c.args.operand.kind (place_of c.args.operand) z) (to_z-of_z w32 c.args.value c.ranges.value) in
     record { value = is; law = subst (λ (n : Store). LoadsConstant m n c.args.operand c.args.value) (sym is) (constant_law m (held_of c.args.self.now) c.args.operand c.args.value) }

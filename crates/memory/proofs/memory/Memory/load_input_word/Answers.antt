@@ -10,5 +10,5 @@ pub returns : goal.returns
 unfolding input_word_loaded
 returns c =
     let m : Store = c.args.self.now.store in
-    let is : c.put-input-word.new.self.store ≡ input_word_loaded m c.args.place c.args.word = c.put-input-word.ensures in
+    let is : c.put_input_word.new.self.store ≡ input_word_loaded m c.args.place c.args.word = c.put_input_word.ensures in
     record { value = is; law = subst (λ (n : Store). LoadsInputWord m n c.args.place c.args.word) (sym is) (input_word_law m (held_of c.args.self.now) c.args.place c.args.word) }

@@ -10,5 +10,5 @@ pub returns : goal.returns
 unfolding inputs_loaded
 returns c =
     let m : Store = c.args.self.now.store in
-    let is : c.put-inputs.new.self.store ≡ inputs_loaded m c.args.group c.args.word = c.put-inputs.ensures in
+    let is : c.put_inputs.new.self.store ≡ inputs_loaded m c.args.group c.args.word = c.put_inputs.ensures in
     record { value = is; law = subst (λ (n : Store). LoadsInputs m n c.args.group c.args.word) (sym is) (inputs_law m (held_of c.args.self.now) c.args.group c.args.word) }

@@ -10,5 +10,5 @@ pub returns : goal.returns
 unfolding output_word_of
 returns c =
     let m : Store = c.args.self.now.store in
-    let is : c.output-word-held.result ≡ output_word_of m c.args.place = c.output-word-held.ensures in
+    let is : c.output_word_held.result ≡ output_word_of m c.args.place = c.output_word_held.ensures in
     record { value = is; law = subst (λ (w : ℕ). TellsWord m c.args.place w) (sym is) (word_told m (held_of c.args.self.now) c.args.place) }

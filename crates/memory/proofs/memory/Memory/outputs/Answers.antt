@@ -9,5 +9,5 @@ pub returns : goal.returns
 unfolding outputs_of
 returns c =
     let m : Store = c.args.self.now.store in
-    let is : c.outputs-held.result ≡ outputs_of m c.args.group = c.outputs-held.ensures in
+    let is : c.outputs_held.result ≡ outputs_of m c.args.group = c.outputs_held.ensures in
     record { value = is; law = subst (λ (w : ℕ). TellsOutputs m c.args.group w) (sym is) (outputs_told m c.args.group) }

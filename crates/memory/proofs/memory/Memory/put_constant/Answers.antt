@@ -3,7 +3,7 @@ use Rattle.memory.proofs.Held.{Held, held_constant}
 use Rattle.memory.proofs.Wrapped.{held_of, facts}
 use Rattle.memory.proofs.memory.Memory.put_constant.Goals as goal
 
-pub invariant-of-self : goal.invariant-of-self
-invariant-of-self c =
+pub invariant_of-self : goal.invariant_of-self
+invariant_of-self c =
     let h : Held c.args.self.now.store = held_of c.args.self.now in
-    facts c.load-constant.ensures (search (rules, held_constant))
+    facts c.load_constant.ensures (search (rules, held_constant))

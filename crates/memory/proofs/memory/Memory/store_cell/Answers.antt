@@ -12,5 +12,5 @@ pub returns : goal.returns
 unfolding cell_stored
 returns c =
     let m : Store = c.args.self.now.store in
-    let is : c.put-cell.new.self.store ≡ cell_stored m c.args.cell c.args.value = c.put-cell.ensures ∙ ap (λ (z : ℤ). cell_put m c.args.cell z) (to_z-of_z w32 c.args.value c.ranges.value) in
+    let is : c.put_cell.new.self.store ≡ cell_stored m c.args.cell c.args.value = c.put_cell.ensures ∙ ap (λ (z : ℤ). cell_put m c.args.cell z) (to_z-of_z w32 c.args.value c.ranges.value) in
     record { value = is; law = subst (λ (n : Store). StoresCell m n c.args.cell c.args.value) (sym is) (cell_law m (held_of c.args.self.now) c.args.cell c.args.value) }

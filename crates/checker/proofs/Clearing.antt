@@ -1,7 +1,7 @@
 -- Questions that all get a yes.
 use Rattle.std.proofs.Common.{◌≡◌, ℕ, Bool, true, false, List, [], ◌∷◌, Some, None, Option, sym, refl, ap, ◌∙◌, arith}
 use Rattle.told.specs.declared.Told.{Told}
-use Rattle.check.specs.Verdict.{Question, unless, no_or, first_no, then_no, unless_refused, passed}
+use Rattle.checker.specs.Verdict.{Question, unless, no_or, first_no, then_no, unless_refused, passed}
 
 -- each gets a yes
 abbrev pub Clear : {A : Type 0} → List (Question A) → A → Type 0

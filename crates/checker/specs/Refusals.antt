@@ -3,8 +3,8 @@ use Rattle.std.specs.Prelude.{ℕ}
 use Rattle.told.specs.declared.Told.{Told}
 use Rattle.view.specs.declared.OpenRefusal.{OpenRefusal}
 use Rattle.view.specs.declared.OpenRefusal.TheVariants as View
-use Rattle.check.specs.declared.refusal.CheckRefusal.{CheckRefusal}
-use Rattle.check.specs.declared.refusal.CheckRefusal.TheVariants.{NoTrailer, NoEdition, NoFit, NoConstant, NoItem, NoList, TooDeep, NoType, NoTarget, NoPin, NoMark, NoCells}
+use Rattle.checker.specs.declared.refusal.CheckRefusal.{CheckRefusal}
+use Rattle.checker.specs.declared.refusal.CheckRefusal.TheVariants.{NoTrailer, NoEdition, NoFit, NoConstant, NoItem, NoList, TooDeep, NoType, NoTarget, NoPin, NoMark, NoCells}
 
 abbrev pub no_to : ℕ → ℕ → Told
 no_to question place = record { question = question; place = place }

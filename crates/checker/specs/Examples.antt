@@ -1,9 +1,9 @@
 -- Two small images.
 use Rattle.std.specs.Prelude.{◌≡◌, ℕ, List, [], ◌∷◌}
 use Rattle.image.specs.Example.{example_words}
-use Rattle.check.specs.Passes.{Passes}
-use Rattle.check.specs.Refusals.{no_to}
-use Rattle.check.specs.Verdict.{passed, refused, verdict_of}
+use Rattle.checker.specs.Passes.{Passes}
+use Rattle.checker.specs.Refusals.{no_to}
+use Rattle.checker.specs.Verdict.{passed, refused, verdict_of}
 
 -- a sentence of bits that assigns to a word marker
 abbrev pub mixed_words : List ℕ

@@ -1,7 +1,7 @@
 // The check.
 ghost use Rattle.std.specs.Prelude.{◌≡◌};
-ghost use Rattle.check.specs.Verdict.{answered, first_no, known_questions, list_questions, no_of, seen, verdict_of};
-ghost use Rattle.check.specs.Passes.{Judges};
+ghost use Rattle.checker.specs.Verdict.{answered, first_no, known_questions, list_questions, no_of, seen, verdict_of};
+ghost use Rattle.checker.specs.Passes.{Judges};
 
 use crate::refusal::CheckRefusal;
 use constants::pass::constant_fault;

@@ -7,8 +7,8 @@ use Rattle.view.specs.declared.Image.{Image}
 use Rattle.view.specs.declared.OpenRefusal.{OpenRefusal}
 use Rattle.view.specs.declared.OpenRefusal.TheVariants as View
 use Rattle.view.specs.Trailers.{Opens, has_trailer, edition_in, known_edition, sizes_fit, back_in, items_in, constants_in, item_part, constant_part, cells_in}
-use Rattle.check.specs.Refusals.{told_of, of_view, no_to}
-use Rattle.check.specs.Verdict.{Verdict, refused, passed, Parts, unless, no_or, first_no, trailer_questions, list_questions, parts_of, seen, then_no, list_no, unless_refused, verdict_of}
+use Rattle.checker.specs.Refusals.{told_of, of_view, no_to}
+use Rattle.checker.specs.Verdict.{Verdict, refused, passed, Parts, unless, no_or, first_no, trailer_questions, list_questions, parts_of, seen, then_no, list_no, unless_refused, verdict_of}
 
 -- the verdict, from the answers to the trailer's questions
 told_by : Bool → Bool → Bool → Option Told → List ℕ → Verdict

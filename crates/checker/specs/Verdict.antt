@@ -15,9 +15,9 @@ use Rattle.fitting.specs.Targets.{targets}
 use Rattle.fitting.specs.Pins.{pins}
 use Rattle.marks.specs.Jumps.{jump_fault}
 use Rattle.marks.specs.Cells.{all_cells}
-use Rattle.check.specs.declared.check.Passed.{Passed}
-use Rattle.check.specs.declared.refusal.CheckRefusal.{CheckRefusal}
-use Rattle.check.specs.Refusals.{no_to, told_of}
+use Rattle.checker.specs.declared.check.Passed.{Passed}
+use Rattle.checker.specs.declared.refusal.CheckRefusal.{CheckRefusal}
+use Rattle.checker.specs.Refusals.{no_to, told_of}
 
 -- a question has a number, and a no has a place
 pub record Question (A : Type 0) : Type 0 where

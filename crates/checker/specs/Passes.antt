@@ -13,8 +13,8 @@ use Rattle.questions.specs.Sentences.{Typed}
 use Rattle.questions.specs.Targets.{Written}
 use Rattle.questions.specs.Calls.{Pinned}
 use Rattle.questions.specs.Jumps.{Led}
-use Rattle.check.specs.declared.check.Passed.{Passed}
-use Rattle.check.specs.declared.refusal.CheckRefusal.{CheckRefusal}
+use Rattle.checker.specs.declared.check.Passed.{Passed}
+use Rattle.checker.specs.declared.refusal.CheckRefusal.{CheckRefusal}
 
 pub record Passes (ws : List ℕ) : Type 0 where
   -- 1: there is a trailer, and it ends in AC31h

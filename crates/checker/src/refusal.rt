@@ -1,6 +1,6 @@
 // Why an image does not pass.
 ghost use Rattle.std.specs.Prelude.{◌≡◌};
-ghost use Rattle.check.specs.Refusals.{of_view, told_of};
+ghost use Rattle.checker.specs.Refusals.{of_view, told_of};
 
 use told::Told;
 use view::OpenRefusal;

@@ -7,10 +7,10 @@ use Rattle.constants.specs.Decoded.{constants_of}
 use Rattle.constants.specs.Lawful.{constant_fault}
 use Rattle.marks.specs.Places.{first_of}
 use Rattle.marks.specs.Cells.{cells_before}
-use Rattle.check.specs.Examples.{mixed_words, ExamplesHold}
-use Rattle.check.specs.Refusals.{no_to}
-use Rattle.check.specs.Verdict.{passed, refused, verdict_of}
-use Rattle.check.proofs.Passing.{sound, complete}
+use Rattle.checker.specs.Examples.{mixed_words, ExamplesHold}
+use Rattle.checker.specs.Refusals.{no_to}
+use Rattle.checker.specs.Verdict.{passed, refused, verdict_of}
+use Rattle.checker.proofs.Passing.{sound, complete}
 
 passes : verdict_of example_words ≡ passed 9 2
 unfolding verdict_of fault_from items_of constants_of constant_fault first_of cells_before

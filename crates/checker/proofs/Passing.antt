@@ -29,12 +29,12 @@ use Rattle.questions.proofs.Runs.{reached_clear}
 use Rattle.questions.proofs.Agreeing.{rules_agree}
 use Rattle.questions.proofs.Jumps as Jumps
 use Rattle.questions.proofs.Cells.{same_sum}
-use Rattle.check.specs.declared.check.Passed.{Passed}
-use Rattle.check.specs.declared.refusal.CheckRefusal.{CheckRefusal}
-use Rattle.check.specs.Verdict.{passed, refused, Parts, unless, first_no, trailer_questions, list_questions, parts_of, then_no, list_no, unless_refused, verdict_of, answered}
-use Rattle.check.specs.Passes.{Passes, Judges}
-use Rattle.check.proofs.Clearing.{Clear, all_clear, each_clear, then_clear, unless_yes, not_refused}
-use Rattle.check.proofs.Deciding.{opened_verdict, item_length, constant_length}
+use Rattle.checker.specs.declared.check.Passed.{Passed}
+use Rattle.checker.specs.declared.refusal.CheckRefusal.{CheckRefusal}
+use Rattle.checker.specs.Verdict.{passed, refused, Parts, unless, first_no, trailer_questions, list_questions, parts_of, then_no, list_no, unless_refused, verdict_of, answered}
+use Rattle.checker.specs.Passes.{Passes, Judges}
+use Rattle.checker.proofs.Clearing.{Clear, all_clear, each_clear, then_clear, unless_yes, not_refused}
+use Rattle.checker.proofs.Deciding.{opened_verdict, item_length, constant_length}
 
 -- question 5: where no item is unknown, all are known
 

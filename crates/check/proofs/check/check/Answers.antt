@@ -1,7 +1,0 @@
-use Rattle.std.proofs.Common.{arith}
-use Rattle.check.proofs.Passing.{judges}
-use Rattle.check.proofs.check.check.Goals as goal
-
-pub returns : goal.returns
-returns c =
-    record { answer = c.decide.ensures; exact = judges c.args.words.now (λ i. let f = c.type-inv.words i in omega arith) _ c.decide.ensures }
