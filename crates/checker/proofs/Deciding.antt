@@ -6,7 +6,7 @@ use Rattle.told.specs.declared.Told.{Told}
 use Rattle.view.specs.declared.Image.{Image}
 use Rattle.view.specs.declared.OpenRefusal.{OpenRefusal}
 use Rattle.view.specs.declared.OpenRefusal.TheVariants as View
-use Rattle.view.specs.Trailers.{Opens, has_trailer, edition_in, known_edition, sizes_fit, back_in, items_in, constants_in, item_part, constant_part, cells_in}
+use Rattle.view.specs.Trailers.{Opens, InTurn, has_trailer, edition_in, known_edition, sizes_fit, back_in, items_in, constants_in, item_part, constant_part, cells_in}
 use Rattle.checker.specs.Refusals.{told_of, of_view, no_to}
 use Rattle.checker.specs.Verdict.{Verdict, refused, passed, Parts, unless, no_or, first_no, trailer_questions, list_questions, parts_of, seen, then_no, list_no, unless_refused, verdict_of}
 
@@ -14,11 +14,11 @@ use Rattle.checker.specs.Verdict.{Verdict, refused, passed, Parts, unless, no_or
 told_by : Bool → Bool → Bool → Option Told → List ℕ → Verdict
 told_by one two three rest ws = unless_refused (then_no (no_or 1 (unless one) (no_or 2 (unless two) (no_or 3 (unless three) None))) rest) ws
 
-pub not_opened : (ws : List ℕ) (q : OpenRefusal) → Opens ws (Err q) → refused (told_of (of_view q)) ≡ verdict_of ws
+pub not_opened : (ws : List ℕ) (q : OpenRefusal) → Opens ws (Err q) → InTurn ws (Err q) → refused (told_of (of_view q)) ≡ verdict_of ws
 unfolding verdict_of told_by
-not_opened ws View.NoTrailer h = sym (ap (λ (b : Bool). told_by b (known_edition ws) (sizes_fit ws) (list_no (edition_in ws) ws) ws) h)
-not_opened ws View.NoEdition (h, k) = sym (ap (λ (b : Bool). told_by b (known_edition ws) (sizes_fit ws) (list_no (edition_in ws) ws) ws) h ∙ ap (λ (b : Bool). told_by true b (sizes_fit ws) (list_no (edition_in ws) ws) ws) k)
-not_opened ws View.NoFit (h, k, l) =
+not_opened ws View.NoTrailer h t = sym (ap (λ (b : Bool). told_by b (known_edition ws) (sizes_fit ws) (list_no (edition_in ws) ws) ws) h)
+not_opened ws View.NoEdition (h, n) k = sym (ap (λ (b : Bool). told_by b (known_edition ws) (sizes_fit ws) (list_no (edition_in ws) ws) ws) h ∙ ap (λ (b : Bool). told_by true b (sizes_fit ws) (list_no (edition_in ws) ws) ws) k)
+not_opened ws View.NoFit (h, l) k =
     sym (ap (λ (b : Bool). told_by b (known_edition ws) (sizes_fit ws) (list_no (edition_in ws) ws) ws) h
     ∙ (ap (λ (b : Bool). told_by true b (sizes_fit ws) (list_no (edition_in ws) ws) ws) k
     ∙ ap (λ (b : Bool). told_by true true b (list_no (edition_in ws) ws) ws) l))

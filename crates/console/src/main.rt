@@ -4,6 +4,7 @@
 
 use report::{Report, report_text};
 use std::io::Read;
+use std::process::ExitCode;
 
 fn report_input(rt: &HostRuntime) -> anyhow::Result<Report> {
     let mut text = Vec::new(rt.alloc());
@@ -17,13 +18,10 @@ fn print_report(rt: &HostRuntime) -> anyhow::Result<bool> {
     Ok(report.accepted)
 }
 
-// A list that was refused, told on standard output already.
-#[derive(Drop)]
-struct NotAccepted;
-
-fn main(rt: HostRuntime) -> Result<(), NotAccepted> {
-    match print_report(&rt) {
-        Ok(true) => Ok(()),
-        _ => Err(NotAccepted),
+fn main(rt: HostRuntime) -> anyhow::Result<ExitCode> {
+    if print_report(&rt)? {
+        Ok(ExitCode::SUCCESS)
+    } else {
+        Ok(ExitCode::FAILURE)
     }
 }

@@ -8,6 +8,7 @@ use operand::edition::Edition;
 use outcome::{MOST_WORDS, Report, report_text};
 use std::env;
 use std::io::{Read, Write};
+use std::process::ExitCode;
 use told::Told;
 use translate::translate::translate;
 
@@ -55,13 +56,10 @@ fn run(rt: &HostRuntime) -> anyhow::Result<bool> {
     Ok(report.accepted)
 }
 
-// A list that was refused, told on standard output already.
-#[derive(Drop)]
-struct NotAccepted;
-
-fn main(rt: HostRuntime) -> Result<(), NotAccepted> {
-    match run(&rt) {
-        Ok(true) => Ok(()),
-        _ => Err(NotAccepted),
+fn main(rt: HostRuntime) -> anyhow::Result<ExitCode> {
+    if run(&rt)? {
+        Ok(ExitCode::SUCCESS)
+    } else {
+        Ok(ExitCode::FAILURE)
     }
 }

@@ -18,20 +18,28 @@ held_of x = record {
   const_doubles = x.constant_doubles;
 }
 
--- the facts that the type asks for, in its order
+-- the facts that the type asks for, by its names
 abbrev pub Asked : Store → Type 0
-Asked n =
-    (sizes_of n ≡ all_sizes)
-    × ((steps_lawful n.chains ≡ true)
-    × ((all_lawful Word n.output_words ≡ true)
-    × ((all_lawful Word n.marker_words ≡ true)
-    × ((all_lawful Word n.constant_words ≡ true)
-    × ((all_lawful Double n.marker_doubles ≡ true)
-    × ((all_lawful Double n.constant_doubles ≡ true)
-    × Unit {0}))))))
+Asked n = record {
+  whole : sizes_of n ≡ all_sizes;
+  steps : steps_lawful n.chains ≡ true;
+  output_words : all_lawful Word n.output_words ≡ true;
+  marker_words : all_lawful Word n.marker_words ≡ true;
+  constant_words : all_lawful Word n.constant_words ≡ true;
+  marker_doubles : all_lawful Double n.marker_doubles ≡ true;
+  constant_doubles : all_lawful Double n.constant_doubles ≡ true;
+}
 
 asked : (n : Store) → Held n → Asked n
-asked n h = (h.whole, (h.steps, (h.outs, (h.marks, (h.consts, (h.doubles, (h.const_doubles, tt)))))))
+asked n h = record {
+  whole = h.whole;
+  steps = h.steps;
+  output_words = h.outs;
+  marker_words = h.marks;
+  constant_words = h.consts;
+  marker_doubles = h.doubles;
+  constant_doubles = h.const_doubles;
+}
 
 pub facts : {n k : Store} → n ≡ k → Held k → Asked n
 facts {n} e h = asked n (subst Held (sym e) h)

@@ -53,7 +53,7 @@ impl<T: Drop> From<AllocFailed<T>> for TokenRefusal {
 fn is_define(part: &[u8]) -> bool
     ensures { result ≡ bytes_eq part.now (codes ":=") }
 {
-    part == b":="
+    part == b":=".as_slice()
 }
 
 // The place of the first comma, or the end.

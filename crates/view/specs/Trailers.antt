@@ -63,3 +63,10 @@ Opens ws (Ok v) =
 Opens ws (Err NoTrailer) = has_trailer ws ≡ false
 Opens ws (Err NoEdition) = (has_trailer ws ≡ true) × (edition_in ws ≡ None)
 Opens ws (Err NoFit) = (has_trailer ws ≡ true) × (sizes_fit ws ≡ false)
+
+-- the sizes are at fault only where the question before them gets a yes
+abbrev pub InTurn : List ℕ → Result Image OpenRefusal → Type 0
+InTurn ws (Ok v) = known_edition ws ≡ true
+InTurn ws (Err NoTrailer) = Unit {0}
+InTurn ws (Err NoEdition) = known_edition ws ≡ false
+InTurn ws (Err NoFit) = known_edition ws ≡ true

@@ -2,7 +2,7 @@
 #![tactic(auto)]
 
 ghost use Rattle.std.specs.Prelude.{◌≡◌, ◌≤◌, true, length};
-ghost use Rattle.view.specs.Trailers.{from_end, has_trailer, sizes_fit, Opens};
+ghost use Rattle.view.specs.Trailers.{from_end, has_trailer, sizes_fit, Opens, InTurn};
 
 use image::write::{IDENTIFIER, MOST_CONSTANTS, MOST_ITEMS};
 use operand::edition::Edition;
@@ -55,7 +55,8 @@ fn fits(words: &[u16]) -> bool
 
 // The parts of an image, or the first of the questions 1 to 3 that gets a no.
 pub fn view_image<'a>(words: &'a [u16]) -> Result<Image<'a>, OpenRefusal>
-    ensures { Opens words.now result }
+    ensures opens { Opens words.now result }
+    ensures in_turn { InTurn words.now result }
 {
     if !is_image(words) {
         return Err(OpenRefusal::NoTrailer);

@@ -9,23 +9,23 @@ use Rattle.checker.proofs.check.decide.Goals as goal
 pub returns-in_err-image : goal.returns-in_err-image
 returns-in_err-image c =
     let p = err_from_is_err_and c.from_residual.result c.from_residual.ensures.1 in
-    ap answered p.1 ∙ (ap (λ q. answered (Err q)) p.2 ∙ not_opened c.args.words.now _ c.in_err-image.ensures)
+    ap answered p.1 ∙ (ap (λ q. answered (Err q)) p.2 ∙ not_opened c.args.words.now _ c.in_err-image.ensures.opens c.in_err-image.ensures.in_turn)
 
 pub returns-in_err-judge : goal.returns-in_err-judge
 returns-in_err-judge c =
     let p = err_from_is_err_and c.from_residual-in_err-judge.result c.from_residual-in_err-judge.ensures.1 in
-    ap answered p.1 ∙ (ap (λ q. answered (Err q)) p.2 ∙ opened_to c.args.words.now c.in_ok-image.image c.in_ok-image.ensures _ c.in_err-judge.ensures)
+    ap answered p.1 ∙ (ap (λ q. answered (Err q)) p.2 ∙ opened_to c.args.words.now c.in_ok-image.image c.in_ok-image.ensures.opens _ c.in_err-judge.ensures)
 
 pub overflow_cast-result : goal.overflow_cast-result
 overflow_cast-result c =
-    let v = c.in_ok-image.ensures in
+    let v = c.in_ok-image.ensures.opens in
     let n = ap length v.3 ∙ item_length c.args.words.now v.2 in
     let f = few_items c.args.words.now v.2 in
     omega arith
 
 pub returns : goal.returns
 returns c =
-    let v = c.in_ok-image.ensures in
+    let v = c.in_ok-image.ensures.opens in
     let n = ap length v.3 ∙ item_length c.args.words.now v.2 in
     let half : length c.in_ok-image.image.items.now / 2 ≡ items_in c.args.words.now = omega arith in
     (λ i. passed (half i) (v.5 i)) ∙ opened_to c.args.words.now c.in_ok-image.image v None c.in_ok-judge.ensures
