@@ -18,4 +18,4 @@ returns-in-Some c =
 pub returns-in-None : goal.returns-in-None
 returns-in-None c =
     let there : ltb c.args.place (length c.args.items.now / 2) ≡ true = grind (arith, nat_tests) in
-    read_as (sym (cond-true _ _ _ there ∙ ap item_or_unknown (sym c.in-None.ensures.value))) c.put-text_in-None.ensures
+    read_as (sym (cond-true _ _ _ there ∙ ap item_or_unknown (sym c.in-None.ensures.value))) c.put_text-in-None.ensures
