@@ -78,15 +78,15 @@ pub fn operand(kind: Kind, group: u8, channel: u8) -> Operand {
     }
 }
 
-fn check_row(rt: &impl Abort, t: Trial) -> Result<(), Fail> {
+fn check_row(rt: &impl Abort, t: Trial) {
     let o = operand(t.kind, t.group, t.channel);
+    let code = o.code();
     let beside = operand(t.kind, t.group ^ 1, t.channel);
     let new = Memory::new();
     let mut memory = Memory::new();
     memory.store(o, t.stored);
-    assert_eq!(rt; memory.read(o), t.reads);
-    assert_eq!(rt; memory.read(beside), new.read(beside));
-    Ok(())
+    assert_eq!(rt; memory.read(o), t.reads, "{code}");
+    assert_eq!(rt; memory.read(beside), new.read(beside), "{code}");
 }
 
 // The set step of a chain, as its bits tell it: 16 where none is set or more than one.
@@ -124,7 +124,7 @@ fn check_chain(rt: &impl Abort) {
 #[test]
 fn operands_read_what_was_stored(rt: HostRuntime) -> Result<(), Fail> {
     for t in trials() {
-        check_row(&rt, t).note(operand(t.kind, t.group, t.channel).code())?;
+        check_row(&rt, t);
     }
     check_chain(&rt);
     Ok(())

@@ -28,19 +28,22 @@ fn is_writable(number: u16, place: u16) -> bool {
     }
 }
 
-fn check_operand(rt: &impl Abort, operand: Operand, code: u16) -> Result<(), Fail> {
+fn check_operand(rt: &impl Abort, operand: Operand, code: u16) {
     let place = code % 4096;
-    assert_eq!(rt; operand.code(), code);
-    assert_eq!(rt; operand.kind.number(), code / 4096);
-    assert_eq!(rt; operand.place(), place);
-    assert_eq!(rt; operand.group as u16, place / 16);
-    assert_eq!(rt; operand.channel as u16, place % 16);
-    assert_eq!(rt; operand.is_writable(), is_writable(code / 4096, place));
-    Ok(())
+    assert_eq!(rt; operand.code(), code, "{code}");
+    assert_eq!(rt; operand.kind.number(), code / 4096, "{code}");
+    assert_eq!(rt; operand.place(), place, "{code}");
+    assert_eq!(rt; operand.group as u16, place / 16, "{code}");
+    assert_eq!(rt; operand.channel as u16, place % 16, "{code}");
+    assert_eq!(rt;
+        operand.is_writable(),
+        is_writable(code / 4096, place),
+        "{code}"
+    );
 }
 
 // An operand as an item: a term, a pin and what an assignment stores to.
-fn check_items(rt: &impl Abort, operand: Operand, code: u16) -> Result<(), Fail> {
+fn check_items(rt: &impl Abort, operand: Operand, code: u16) {
     check_item(rt, Item::Operand(operand), 8, code);
     check_item(rt, Item::Assign(Form::Plain, operand), 30, code);
     check_item(rt, Item::Assign(Form::Not, operand), 31, code);
@@ -48,13 +51,12 @@ fn check_items(rt: &impl Abort, operand: Operand, code: u16) -> Result<(), Fail>
     check_item(rt, Item::Assign(Form::Set, operand), 33, code);
     check_item(rt, Item::Assign(Form::Reset, operand), 34, code);
     check_item(rt, Item::Pin(operand), 42, code);
-    Ok(())
 }
 
 pub fn check_item(rt: &impl Abort, item: Item, number: u16, argument: u16) {
-    assert_eq!(rt; item.number(), number);
-    assert_eq!(rt; item.argument(), argument);
-    assert_eq!(rt; item.cells(), 0);
+    assert_eq!(rt; item.number(), number, "{number} {argument}");
+    assert_eq!(rt; item.argument(), argument, "{number} {argument}");
+    assert_eq!(rt; item.cells(), 0, "{number} {argument}");
 }
 
 #[test]
@@ -64,8 +66,8 @@ fn codes_are_undone(rt: HostRuntime) -> Result<(), Fail> {
     for code in 0..=u16::MAX {
         if let Some(operand) = decode(Edition::Series90, code) {
             assert!(rt; is_there(code / 4096, code % 4096), "{}", code);
-            check_operand(&rt, operand, code).note(code)?;
-            check_items(&rt, operand, code).note(code)?;
+            check_operand(&rt, operand, code);
+            check_items(&rt, operand, code);
             known = known.saturating_add(1);
             if !operand.is_writable() {
                 not_writable = not_writable.saturating_add(1);

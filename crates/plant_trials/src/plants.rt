@@ -22,23 +22,22 @@ fn check_calls<P: Plant>(
     point: u16,
     input: Option<u16>,
     layer: u16,
-) -> Result<(), Fail> {
+) {
     let fault = PlantFault { point, layer };
     for _ in 0..2 {
         match input {
             Some(word) => {
-                assert_eq!(rt; plant.fitted(point), Ok(()));
-                assert_eq!(rt; plant.take(point), Ok(word));
-                assert_eq!(rt; plant.put(point, WORD), Ok(()));
+                assert_eq!(rt; plant.fitted(point), Ok(()), "{point}");
+                assert_eq!(rt; plant.take(point), Ok(word), "{point}");
+                assert_eq!(rt; plant.put(point, WORD), Ok(()), "{point}");
             }
             None => {
-                assert_eq!(rt; plant.fitted(point), Err(fault));
-                assert_eq!(rt; plant.take(point), Err(fault));
-                assert_eq!(rt; plant.put(point, WORD), Err(fault));
+                assert_eq!(rt; plant.fitted(point), Err(fault), "{point}");
+                assert_eq!(rt; plant.take(point), Err(fault), "{point}");
+                assert_eq!(rt; plant.put(point, WORD), Err(fault), "{point}");
             }
         }
     }
-    Ok(())
 }
 
 // Words that tell their places.
@@ -59,8 +58,8 @@ fn check_strip(rt: &impl Abort, heap: Global, length: usize, point: u16) -> Resu
         input = Some(expected[at]);
         expected[at + 1] = WORD;
     }
-    check_calls(rt, &mut Strip::new(&mut words), point, input, 1)?;
-    assert_eq!(rt; words.as_slice(), expected.as_slice());
+    check_calls(rt, &mut Strip::new(&mut words), point, input, 1);
+    assert_eq!(rt; words.as_slice(), expected.as_slice(), "{length} {point}");
     Ok(())
 }
 
@@ -68,7 +67,7 @@ fn check_strip(rt: &impl Abort, heap: Global, length: usize, point: u16) -> Resu
 fn strips(rt: HostRuntime) -> Result<(), Fail> {
     for length in &LENGTHS {
         for point in &POINTS {
-            check_strip(&rt, rt.alloc(), *length, *point).note(*length)?;
+            check_strip(&rt, rt.alloc(), *length, *point)?;
         }
     }
     Ok(())
@@ -127,21 +126,22 @@ fn check_bus(
         module.output_low = 0xEF;
         module.output_high = 0xBE;
     }
-    check_calls(rt, &mut Bus::new(&mut records), point, input, 2)?;
-    assert_eq!(rt; records.as_slice(), expected.as_slice());
+    check_calls(rt, &mut Bus::new(&mut records), point, input, 2);
+    assert_eq!(rt; records.as_slice(), expected.as_slice(), "{point}");
     Ok(())
 }
 
 #[test]
 fn buses(rt: HostRuntime) -> Result<(), Fail> {
     for row in &SERVED {
-        check_bus(&rt, rt.alloc(), row[0], row[1] as usize, Some(row[2])).note(row[0])?;
+        check_bus(&rt, rt.alloc(), row[0], row[1] as usize, Some(row[2]))?;
     }
     for point in &UNSERVED {
-        check_bus(&rt, rt.alloc(), *point, MODULES.len(), None).note(*point)?;
+        check_bus(&rt, rt.alloc(), *point, MODULES.len(), None)?;
     }
     let mut none: [Module; 0] = [];
-    check_calls(&rt, &mut Bus::new(&mut none), 0, None, 2)
+    check_calls(&rt, &mut Bus::new(&mut none), 0, None, 2);
+    Ok(())
 }
 
 // Sixteen puts that are not refused, of which the first eight are in the log.
@@ -157,7 +157,7 @@ fn benches(rt: HostRuntime) -> Result<(), Fail> {
     };
     for point in &POINTS {
         let input = if *point < 192 { Some(5) } else { None };
-        check_calls(&rt, &mut bench, *point, input, 7).note(*point)?;
+        check_calls(&rt, &mut bench, *point, input, 7);
     }
     assert_eq!(rt; bench.log, [0, 0, 1, 1, 63, 63, 64, 64]);
     assert!(rt; bench.terminals.len() == 200);
