@@ -1,9 +1,8 @@
 -- Windows of two histories, read and put back side by side.
-use Rattle.std.proofs.Common.{◌≡◌, ℕ, zero, suc, ◌+◌, ◌<◌, Bool, true, false, cond, ltb, List, [], ◌∷◌, length, get_or, set, ℤ, pos, refl, ap, subst, arith, length-set}
+use Rattle.std.proofs.Common.{◌≡◌, ℕ, zero, suc, ◌+◌, Bool, true, false, cond, ltb, List, [], ◌∷◌, length, get_or, set, ℤ, pos, refl, ap, subst, arith, length-set}
 use Rattle.std.proofs.lemmas.Bool.{ltb-true}
-use Rattle.block.specs.Meaning.{Meaning}
 use Rattle.block.specs.Windows.{cell_at, window_of, with_cell, with_window, worked_at, history_after}
-use Rattle.block_laws.specs.Agreement.{Agree, Agreed, WindowsAgree}
+use Rattle.block_laws.specs.Agreement.{Agree, WindowsAgree}
 
 set_both : (a b : List ℤ) (i p : ℕ) (v : ℤ) → length a ≡ length b → get_or a p (pos 0) ≡ get_or b p (pos 0) → get_or (set a i v) p (pos 0) ≡ get_or (set b i v) p (pos 0)
 set_both [] [] i p v l h = refl

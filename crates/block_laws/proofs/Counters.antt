@@ -1,12 +1,12 @@
 -- CTUD over a row that only counts up.
-use Rattle.std.proofs.Common.{◌≡◌, ℕ, ◌+◌, min, Bool, true, false, cond, not, ◌&&◌, List, [], ◌∷◌, ℤ, pos, sym, refl, ap, ◌∙◌, arith}
+use Rattle.std.proofs.Common.{◌≡◌, ℕ, ◌+◌, min, Bool, true, false, cond, not, ◌&&◌, List, [], ◌∷◌, ℤ, pos, refl, ap, ◌∙◌, arith}
 use Rattle.std.proofs.lemmas.Bool.{and_parts}
 use Rattle.std.proofs.lemmas.Bool.Decides.{nat_tests}
 use Rattle.number.specs.Limits.{corrected}
 use Rattle.number.specs.declared.limit.Width.TheVariants.{Word}
 use Rattle.blocks.specs.Pins.{on, bit, bit_at, word_at}
 use Rattle.blocks.specs.Ctud.{ctud, ctud_gives, counted, counter_value}
-use Rattle.block_laws.specs.Rows.{Scan, cells_after, output, t_of, last_t}
+use Rattle.block_laws.specs.Rows.{Scan, cells_after, t_of, last_t}
 use Rattle.block_laws.specs.Rises.{one_if, rises_in, only_up, all_only_up, CountsHold}
 use Rattle.block_laws.proofs.Bits.{on_bit}
 

@@ -1,9 +1,9 @@
 -- I+ over a row: its cell keeps the last T.
 use Rattle.std.proofs.Common.{◌≡◌, ◌+◌, not, ◌&&◌, List, [], ◌∷◌, ℤ, refl, ap, ◌∙◌}
-use Rattle.blocks.specs.Pins.{on, bit, bit_at}
+use Rattle.blocks.specs.Pins.{on, bit}
 use Rattle.blocks.specs.RisingEdge.{rising_edge, edge_gives, edge_output}
 use Rattle.block_laws.specs.Rows.{Scan, cells_after, output, t_of, last_t}
-use Rattle.block_laws.specs.Rises.{one_if, rises_in, pulses, PulsesHold}
+use Rattle.block_laws.specs.Rises.{one_if, PulsesHold}
 use Rattle.block_laws.proofs.Bits.{on_bit}
 
 module _ (a b c : ℤ) where

@@ -1,5 +1,5 @@
 -- What the delays keep over a row, and the time that T has been 1.
-use Rattle.std.proofs.Common.{◌≡◌, ℕ, ◌+◌, min, Bool, true, false, cond, not, ◌&&◌, ltb, leb, List, [], ◌∷◌, ◌++◌, ℤ, pos, sym, refl, ap, ◌∙◌, arith}
+use Rattle.std.proofs.Common.{◌≡◌, ℕ, ◌+◌, min, Bool, true, false, not, ◌&&◌, ltb, leb, List, [], ◌∷◌, ◌++◌, ℤ, pos, sym, refl, ap, ◌∙◌, arith}
 use Rattle.std.proofs.lemmas.Bool.{and_parts, and_from}
 use Rattle.std.proofs.lemmas.Bool.Decides.{nat_tests}
 use Rattle.number.specs.Operations.{natural}
@@ -8,7 +8,7 @@ use Rattle.blocks.specs.Timing.{elapsed, delay}
 use Rattle.blocks.specs.Esv.{esv, esv_gives}
 use Rattle.blocks.specs.Moa.{moa, moa_gives}
 use Rattle.block_laws.specs.Rows.{Scan, cells_after, output, t_of, last_t, all_on, total_ms}
-use Rattle.block_laws.specs.Delays.{OnFor, rose, stayed, Delays, DelaysHold}
+use Rattle.block_laws.specs.Delays.{OnFor, rose, stayed, DelaysHold}
 use Rattle.block_laws.proofs.Bits.{on_bit, cond_both, cond_second}
 
 limited_again : (a b : ℕ) → min (min a 2147483647 + b) 2147483647 ≡ min (b + a) 2147483647

@@ -1,5 +1,5 @@
 -- I+ and CTUD count the rises of a row of scans.
-use Rattle.std.specs.Prelude.{◌≡◌, ℕ, ◌+◌, min, Bool, true, false, cond, not, ◌&&◌, List, [], ◌∷◌, ℤ, pos}
+use Rattle.std.specs.Prelude.{◌≡◌, ℕ, ◌+◌, min, Bool, true, cond, not, ◌&&◌, List, [], ◌∷◌, ℤ, pos}
 use Rattle.number.specs.Limits.{top_of}
 use Rattle.number.specs.declared.limit.Width.TheVariants.{Word}
 use Rattle.blocks.specs.Pins.{on, bit_at}

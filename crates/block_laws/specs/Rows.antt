@@ -1,6 +1,6 @@
 -- Rows of scans that work one block, the latest scan first.
 use Rattle.std.specs.Prelude.{ℕ, ◌+◌, Bool, true, ◌&&◌, List, [], ◌∷◌, ℤ}
-use Rattle.block.specs.Meaning.{Meaning, Given}
+use Rattle.block.specs.Meaning.{Meaning}
 use Rattle.blocks.specs.Pins.{value_at, bit_at}
 
 pub record Scan : Type 0 where

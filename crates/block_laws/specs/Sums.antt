@@ -1,5 +1,5 @@
 -- Sums and scans that the rules are held to.
-use Rattle.std.specs.Prelude.{◌≡◌, ℕ, List, [], ◌∷◌, ℤ, pos, negsuc}
+use Rattle.std.specs.Prelude.{◌≡◌, List, [], ◌∷◌, ℤ, pos, negsuc}
 use Rattle.catalogue.specs.declared.Block.TheVariants.{Esv, Moa, Ctud, Muldi}
 use Rattle.number.specs.Operations.{sum, product, negative, quotient}
 use Rattle.block.specs.Meaning.{Meaning}

@@ -1,5 +1,5 @@
 -- What stands at a pin or in a cell, and what a block tells.
-use Rattle.std.specs.Prelude.{ℕ, Bool, true, false, cond, not, ◌&&◌, List, [], ◌∷◌, ℤ, pos, slice_index_or}
+use Rattle.std.specs.Prelude.{ℕ, Bool, false, cond, not, ◌&&◌, List, [], ◌∷◌, ℤ, pos, slice_index_or}
 use Rattle.number.specs.Limits.{corrected}
 use Rattle.number.specs.Operations.{is_zero}
 use Rattle.number.specs.declared.limit.Width.TheVariants.{Word, Double}

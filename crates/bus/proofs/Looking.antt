@@ -1,8 +1,8 @@
 -- The first record of a point, looked up and written.
-use Rattle.std.proofs.Common.{◌≡◌, ℕ, zero, suc, ◌+◌, ◌*◌, ◌/◌, ◌%◌, ◌<◌, ◌≤◌, Bool, true, false, cond, ◌||◌, eqb, ltb, leb, List, [], ◌∷◌, length, get_or, set, Ok, Err, Result, sym, refl, ap, ◌∙◌, arith, length-set, get_or-set_other, get_or-set_same, MatchResult}
+use Rattle.std.proofs.Common.{◌≡◌, ℕ, zero, suc, ◌+◌, ◌*◌, ◌/◌, ◌%◌, ◌<◌, Bool, true, false, cond, ◌||◌, eqb, ltb, leb, List, [], ◌∷◌, length, get_or, set, Ok, Err, Result, sym, refl, ap, ◌∙◌, arith, length-set, get_or-set_other, get_or-set_same, MatchResult}
 use Rattle.std.proofs.lemmas.Bool.{eq-eqb, ne_eqb, cond-true, cond-false, lt-ltb, ltb-true, lt-leb, eqb-true}
 use Rattle.std.proofs.lemmas.Bool.Decides.{nat_tests}
-use Rattle.plant.specs.Points.{Point, absent, wired, Meaning, put_at}
+use Rattle.plant.specs.Points.{Point, absent, Meaning, put_at}
 use Rattle.plant.specs.Points.{driven as driven-point}
 use Rattle.bus.specs.Buses.{on_bus, look, wired_by, besides, besides_seen, driven, blank, NoneBelow, First, Written, Driven}
 use Rattle.bus.specs.declared.BusFault.{BusFault}

@@ -1,5 +1,5 @@
 -- Questions that all get a yes.
-use Rattle.std.proofs.Common.{◌≡◌, ℕ, Bool, true, false, List, [], ◌∷◌, Some, None, Option, sym, refl, ap, ◌∙◌, arith}
+use Rattle.std.proofs.Common.{◌≡◌, ℕ, Bool, true, false, List, [], ◌∷◌, Some, None, Option, refl, ap, ◌∙◌, arith}
 use Rattle.told.specs.declared.Told.{Told}
 use Rattle.checker.specs.Verdict.{Question, unless, no_or, first_no, then_no, unless_refused, passed}
 

@@ -1,14 +1,14 @@
 -- The code's answers and the verdict.
-use Rattle.std.proofs.Common.{◌≡◌, ℕ, ◌+◌, ◌-◌, ◌*◌, ◌/◌, ◌≤◌, min, Bool, true, false, List, length, take, drop, Some, None, Ok, Err, Option, sym, refl, ap, ◌∙◌, subst, arith, length-drop, length-take}
+use Rattle.std.proofs.Common.{◌≡◌, ℕ, ◌+◌, ◌*◌, ◌≤◌, Bool, true, List, length, Some, None, Ok, Err, Option, sym, ap, ◌∙◌, arith, length-drop, length-take}
 use Rattle.std.proofs.lemmas.Bool.Decides.{nat_tests}
 use Rattle.operand.specs.declared.edition.Edition.{Edition}
 use Rattle.told.specs.declared.Told.{Told}
 use Rattle.view.specs.declared.Image.{Image}
 use Rattle.view.specs.declared.OpenRefusal.{OpenRefusal}
 use Rattle.view.specs.declared.OpenRefusal.TheVariants as View
-use Rattle.view.specs.Trailers.{Opens, InTurn, has_trailer, edition_in, known_edition, sizes_fit, back_in, items_in, constants_in, item_part, constant_part, cells_in}
-use Rattle.checker.specs.Refusals.{told_of, of_view, no_to}
-use Rattle.checker.specs.Verdict.{Verdict, refused, passed, Parts, unless, no_or, first_no, trailer_questions, list_questions, parts_of, seen, then_no, list_no, unless_refused, verdict_of}
+use Rattle.view.specs.Trailers.{Opens, InTurn, has_trailer, edition_in, known_edition, sizes_fit, back_in, items_in, constants_in, item_part, constant_part}
+use Rattle.checker.specs.Refusals.{told_of, of_view}
+use Rattle.checker.specs.Verdict.{Verdict, refused, unless, no_or, first_no, list_questions, parts_of, seen, then_no, list_no, unless_refused, verdict_of}
 
 -- the verdict, from the answers to the trailer's questions
 told_by : Bool → Bool → Bool → Option Told → List ℕ → Verdict

@@ -1,10 +1,9 @@
 -- An image passes exactly when every question gets a yes.
-use Rattle.std.proofs.Common.{◌≡◌, ℕ, zero, suc, ◌+◌, ◌-◌, ◌*◌, ◌/◌, ◌<◌, ◌≤◌, Bool, true, false, cond, ◌&&◌, eqb, ltb, leb, List, [], ◌∷◌, length, get_or, take, drop, Some, None, Ok, Err, Option, Result, sym, refl, ap, ◌∙◌, subst, arith, length-take, get_or-drop, get_or-take}
+use Rattle.std.proofs.Common.{◌≡◌, ℕ, ◌+◌, ◌-◌, ◌*◌, ◌<◌, ◌≤◌, Bool, true, false, ◌&&◌, eqb, ltb, leb, List, [], ◌∷◌, length, get_or, take, drop, Some, None, Ok, Err, Option, Result, sym, refl, ap, ◌∙◌, subst, arith, length-take, get_or-drop, get_or-take}
 use Rattle.std.proofs.lemmas.Bool.Decides.{nat_tests}
 use Rattle.std.proofs.lemmas.List.{get_or_past}
 use Rattle.operand.specs.declared.edition.Edition.{Edition}
 use Rattle.item.specs.declared.item.Item.{Item}
-use Rattle.image.specs.Images.{cells_sum}
 use Rattle.told.specs.declared.Told.{Told}
 use Rattle.view.specs.Trailers.{has_trailer, edition_in, known_edition, sizes_fit, back_in, items_in, constants_in, item_part, constant_part, cells_in}
 use Rattle.constants.specs.Decoded.{constants_of}
@@ -23,7 +22,6 @@ use Rattle.fitting.specs.Types.{types}
 use Rattle.fitting.specs.Targets.{targets}
 use Rattle.fitting.specs.Pins.{pins}
 use Rattle.marks.specs.Cells.{all_cells}
-use Rattle.questions.specs.Known.{Known}
 use Rattle.questions.proofs.Known.{known_words, words_known}
 use Rattle.questions.proofs.Runs.{reached_clear}
 use Rattle.questions.proofs.Agreeing.{rules_agree}
@@ -31,7 +29,7 @@ use Rattle.questions.proofs.Jumps as Jumps
 use Rattle.questions.proofs.Cells.{same_sum}
 use Rattle.checker.specs.declared.check.Passed.{Passed}
 use Rattle.checker.specs.declared.refusal.CheckRefusal.{CheckRefusal}
-use Rattle.checker.specs.Verdict.{passed, refused, Parts, unless, first_no, trailer_questions, list_questions, parts_of, then_no, list_no, unless_refused, verdict_of, answered}
+use Rattle.checker.specs.Verdict.{passed, unless, first_no, trailer_questions, list_questions, parts_of, then_no, list_no, unless_refused, verdict_of, answered}
 use Rattle.checker.specs.Passes.{Passes, Judges}
 use Rattle.checker.proofs.Clearing.{Clear, all_clear, each_clear, then_clear, unless_yes, not_refused}
 use Rattle.checker.proofs.Deciding.{opened_verdict, item_length, constant_length}

@@ -1,5 +1,5 @@
 -- The verdict on an image: the first question that gets a no, with its first place at fault; or that it passes.
-use Rattle.std.specs.Prelude.{ℕ, Bool, true, false, cond, ◌&&◌, List, [], ◌∷◌, ◌++◌, Some, None, Ok, Err, Option, Result, ◌==◌, nat_le}
+use Rattle.std.specs.Prelude.{ℕ, Bool, true, false, ◌&&◌, List, [], ◌∷◌, ◌++◌, Some, None, Ok, Err, Option, Result, ◌==◌, nat_le}
 use Rattle.operand.specs.declared.edition.Edition.{Edition}
 use Rattle.told.specs.declared.Told.{Told}
 use Rattle.view.specs.declared.Image.{Image}

@@ -1,15 +1,13 @@
 -- The pass finds no fault exactly where the words are those of lawful constants in rising order.
-use Rattle.std.proofs.Common.{◌≡◌, ℕ, zero, suc, ◌+◌, ◌*◌, ◌<◌, Bool, true, false, cond, List, [], ◌∷◌, ◌++◌, length, get_or, Some, None, Option, sym, refl, ap, ◌∙◌, subst, arith}
+use Rattle.std.proofs.Common.{◌≡◌, ℕ, zero, suc, ◌+◌, ◌*◌, ◌<◌, Bool, true, false, cond, List, [], ◌∷◌, length, get_or, Some, None, Option, sym, refl, ap, ◌∙◌, arith}
 use Rattle.std.proofs.lemmas.Bool.{cond-true}
 use Rattle.operand.specs.declared.edition.Edition.{Edition}
 use Rattle.operand.specs.declared.operand.Operand.{Operand}
-use Rattle.operand.specs.Codes.{code_of}
 use Rattle.image.specs.declared.constant.Constant.{Constant}
-use Rattle.image.specs.Constants.{low_word, high_word}
-use Rattle.image.specs.Images.{constant_words, constant_triple}
+use Rattle.image.specs.Images.{constant_words}
 use Rattle.constants.specs.Rules.{constant_fits}
 use Rattle.constants.specs.Decoded.{constant_decoded, constants_of}
-use Rattle.constants.specs.Lawful.{Lawful, Decodes, AllLawful, ConstantsLawful, Judged, constant_fault}
+use Rattle.constants.specs.Lawful.{Decodes, AllLawful, Judged, constant_fault}
 use Rattle.constants.proofs.Exact.{constant_again, decoded_exactly}
 
 -- words are below 65,536

@@ -1,5 +1,5 @@
 -- A mnemonic and its number.
-use Rattle.std.proofs.Common.{◌≡◌, ℕ, Some, None, Option, refl, arith}
+use Rattle.std.proofs.Common.{◌≡◌, ℕ, Some, refl, arith}
 use Rattle.std.proofs.lemmas.Bool.Decides.{nat_tests}
 use Rattle.item.specs.declared.mnemonic.Mnemonic.{Mnemonic}
 use Rattle.item.specs.declared.mnemonic.Mnemonic.TheVariants.{Nop, Start, Open, Close, Operator, Compare, Assign, EndIf, Call, Direct, Mark, End}

@@ -1,5 +1,5 @@
 -- The item that a number and an argument stand for: it is known, and its argument in range.
-use Rattle.std.specs.Prelude.{◌≡◌, ℕ, ◌<◌, ◌≤◌, Bool, true, false, cond, Some, None, Option, ◌==◌, ◌≢◌, nat_lt}
+use Rattle.std.specs.Prelude.{◌≡◌, ℕ, ◌≤◌, true, cond, Some, None, Option, ◌==◌, ◌≢◌, nat_lt}
 use Rattle.operand.specs.declared.edition.Edition.{Edition}
 use Rattle.operand.specs.declared.operand.Operand.{Operand as AnyOperand}
 use Rattle.operand.specs.Codes.{decoded, in_range}

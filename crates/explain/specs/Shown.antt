@@ -1,5 +1,5 @@
 -- What is shown of a refusal besides its line: the question in words, and what stands at the place.
-use Rattle.std.specs.Prelude.{ℕ, ◌/◌, min, Bool, cond, ◌&&◌, List, [], ◌∷◌, ◌++◌, length, take, drop, Some, None, codes, Option, nat_le, nat_lt}
+use Rattle.std.specs.Prelude.{ℕ, ◌/◌, min, cond, ◌&&◌, List, [], ◌∷◌, ◌++◌, length, take, drop, Some, None, codes, Option, nat_le, nat_lt}
 use Rattle.operand.specs.declared.edition.Edition.TheVariants.{Series90}
 use Rattle.item.specs.declared.item.Item.{Item}
 use Rattle.rule.specs.Words.{item_at}

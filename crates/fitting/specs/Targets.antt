@@ -1,7 +1,6 @@
 -- Question 9: assigned operands can be written, a step only under `=`.
-use Rattle.std.specs.Prelude.{Bool, true, false, cond, not, ◌&&◌, Some, None, Option}
+use Rattle.std.specs.Prelude.{Bool, true, cond, not, ◌&&◌, Some, None, Option}
 use Rattle.item.specs.declared.mnemonic.Form.{Form}
-use Rattle.item.specs.declared.mnemonic.Form.TheVariants as Form
 use Rattle.operand.specs.declared.operand.Operand.{Operand as Place}
 use Rattle.item.specs.declared.item.Item.{Item}
 use Rattle.item.specs.declared.item.Item.TheVariants.{Nop, Start, Open, Close, Operand, Operator, Compare, Assign, EndIf, Call, Kind, Pin, Direct, Mark, End}

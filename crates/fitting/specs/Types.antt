@@ -5,9 +5,7 @@ use Rattle.item.specs.declared.item.Item.TheVariants.{Nop, Start, Open, Close, O
 use Rattle.operand.specs.declared.kind.Size.{Size}
 use Rattle.operand.specs.declared.kind.Size.TheVariants.{Bit, Word, Double}
 use Rattle.item.specs.declared.mnemonic.Turn.{Turn}
-use Rattle.item.specs.declared.mnemonic.Turn.TheVariants as Turn
 use Rattle.item.specs.declared.mnemonic.Form.{Form}
-use Rattle.item.specs.declared.mnemonic.Form.TheVariants as Form
 use Rattle.item.specs.declared.mnemonic.Operator.{Operator as Sign}
 use Rattle.item.specs.declared.mnemonic.Operator.TheVariants.{And, AndNot, Or, OrNot, Add, Subtract, Multiply, MultiplyMinus, Divide, DivideMinus}
 use Rattle.fitting.specs.declared.types.Types.{Types}

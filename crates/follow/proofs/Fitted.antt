@@ -1,5 +1,5 @@
 -- What a token that fits was read as.
-use Rattle.std.proofs.Common.{◌≡◌, ℕ, Some, None, Ok, Err, Option, Result, refl, ap, arith}
+use Rattle.std.proofs.Common.{◌≡◌, ℕ, Some, None, Ok, Err, Option, refl, ap, arith}
 use Rattle.follow.specs.declared.number.Misfit.{Misfit}
 use Rattle.follow.specs.Fits.{fitting}
 

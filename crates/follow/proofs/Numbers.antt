@@ -1,7 +1,7 @@
 -- A token other than a number does after a call what it does anywhere.
 use Rattle.std.proofs.Common.{◌≡◌, ℕ, List, Some, None, Option, refl, Bor}
 use Rattle.numeral.specs.Numerals.{natural}
-use Rattle.token.specs.Tokens.{Tok, pair_or}
+use Rattle.token.specs.Tokens.{pair_or}
 use Rattle.token.specs.Reads.{meaning}
 use Rattle.token.specs.declared.token.Token.{Token}
 use Rattle.token.specs.declared.token.Token.TheVariants.{Operator, Letters, Block, Define, Number, Pair}

@@ -1,5 +1,5 @@
 -- Reading a list token by token: which token fits the one before, and what it adds to the list.
-use Rattle.std.specs.Prelude.{ℕ, zero, suc, ◌+◌, ◌-◌, ◌*◌, Bool, true, false, cond, not, ◌&&◌, List, [], ◌∷◌, length, ℤ, pos, negsuc, Some, None, Option, nat_le, nat_lt}
+use Rattle.std.specs.Prelude.{ℕ, zero, suc, ◌-◌, Bool, true, false, cond, not, ◌&&◌, List, [], ◌∷◌, length, ℤ, pos, negsuc, Some, None, Option, nat_le, nat_lt}
 use Rattle.operand.specs.declared.edition.Edition.{Edition}
 use Rattle.operand.specs.declared.kind.Kind.{Kind}
 use Rattle.operand.specs.declared.kind.Kind.TheVariants as Of
@@ -16,17 +16,13 @@ use Rattle.item.specs.declared.mnemonic.Form.{Form}
 use Rattle.item.specs.declared.mnemonic.Mnemonic.{Mnemonic}
 use Rattle.item.specs.declared.mnemonic.Mnemonic.TheVariants as Word
 use Rattle.item.specs.declared.item.Item.{Item}
-use Rattle.item.specs.declared.item.Item.TheVariants as Item
 use Rattle.numeral.specs.Numerals.{Written, plain, minus, within}
-use Rattle.image.specs.declared.constant.Constant.{Constant}
 use Rattle.token.specs.Tokens.{Tok, word, letters, block, define, number, pair, unknown}
 use Rattle.follow.specs.declared.state.Asks.{Asks}
-use Rattle.follow.specs.declared.state.Asks.TheVariants as Asks
 use Rattle.follow.specs.declared.state.Role.{Role}
 use Rattle.follow.specs.declared.state.Role.TheVariants as For
 use Rattle.follow.specs.declared.state.State.{State}
 use Rattle.follow.specs.declared.state.Put.{Put}
-use Rattle.follow.specs.declared.state.Put.TheVariants as Put
 use Rattle.follow.specs.declared.state.Step.{Step}
 
 -- a token that only asks something of the next one

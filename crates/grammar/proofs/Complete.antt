@@ -1,17 +1,14 @@
-use Rattle.std.proofs.Common.{◌≡◌, ℕ, zero, suc, ◌<◌, ◌≤◌, Bool, true, false, ◌⊎◌, List, [], ◌∷◌, ◌++◌, Some, None, Option, sym, refl, ap, ◌∙◌, subst, inl, inr}
-use Rattle.catalogue.specs.declared.Block.{Block}
-use Rattle.catalogue.specs.declared.Block.TheVariants.{RisingEdge}
-use Rattle.item.specs.declared.mnemonic.Comparison.{Comparison}
+use Rattle.std.proofs.Common.{◌≡◌, ℕ, suc, Bool, true, false, List, ◌∷◌, Some, Option, refl, ◌∙◌}
 use Rattle.item.specs.declared.mnemonic.Operator.{Operator as Sign}
 use Rattle.item.specs.declared.item.Item.{Item}
-use Rattle.item.specs.declared.item.Item.TheVariants.{Nop, Start, Open, Close, Operand, Operator, Compare, Assign, EndIf, Call, Kind, Pin, Direct, Mark, End}
+use Rattle.item.specs.declared.item.Item.TheVariants.{Operator}
 use Rattle.grammar.specs.declared.automaton.Side.{Side}
 use Rattle.grammar.specs.declared.automaton.Side.TheVariants.{First, Joined, Compared}
 use Rattle.grammar.specs.declared.automaton.Grammar.{Grammar}
-use Rattle.grammar.specs.declared.automaton.Grammar.TheVariants.{Between, Term, After, Assigned, Named, Pins, Done}
-use Rattle.rule.specs.Automata.{Automaton, reached, then}
-use Rattle.grammar.specs.Grammar.{grammar, pin_count, waiting, joins, grammar_step}
-use Rattle.grammar.specs.Lists.{Nops, IsTerm, Further, Value, Assignments, IsPins, IsList, Begins}
+use Rattle.grammar.specs.declared.automaton.Grammar.TheVariants.{Between, Term, After, Assigned, Done}
+use Rattle.rule.specs.Automata.{reached, then}
+use Rattle.grammar.specs.Grammar.{grammar, waiting, joins}
+use Rattle.grammar.specs.Lists.{Nops, IsTerm, Further, Value, Assignments, IsPins, IsList}
 
 -- the state behind the items, from s on
 abbrev pub from : Grammar → List Item → Option Grammar

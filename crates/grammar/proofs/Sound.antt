@@ -1,6 +1,5 @@
-use Rattle.std.proofs.Common.{◌≡◌, ℕ, zero, suc, ◌<◌, ◌≤◌, Bool, true, false, ◌⊎◌, List, [], ◌∷◌, ◌++◌, Some, None, Option, sym, refl, ap, ◌∙◌, subst, inl, inr, arith}
+use Rattle.std.proofs.Common.{◌≡◌, ℕ, zero, suc, Bool, true, false, ◌⊎◌, List, [], ◌∷◌, Some, None, Option, sym, subst, inl, inr, arith}
 use Rattle.catalogue.specs.declared.Block.{Block}
-use Rattle.catalogue.specs.declared.Block.TheVariants.{RisingEdge}
 use Rattle.item.specs.declared.mnemonic.Comparison.{Comparison}
 use Rattle.item.specs.declared.mnemonic.Operator.{Operator as Sign}
 use Rattle.operand.specs.declared.operand.Operand.{Operand as Place}
@@ -12,9 +11,9 @@ use Rattle.grammar.specs.declared.automaton.Side.{Side}
 use Rattle.grammar.specs.declared.automaton.Side.TheVariants.{First, Joined, Compared}
 use Rattle.grammar.specs.declared.automaton.Grammar.{Grammar}
 use Rattle.grammar.specs.declared.automaton.Grammar.TheVariants.{Between, Term, After, Assigned, Named, Pins, Done}
-use Rattle.rule.specs.Automata.{Automaton, reached, then}
+use Rattle.rule.specs.Automata.{reached, then}
 use Rattle.grammar.specs.Grammar.{grammar, pin_count, waiting, begins, due, joins, compares, closes, further, more, kind_due, pin_due, grammar_step}
-use Rattle.grammar.specs.Lists.{Nops, IsTerm, Further, Value, Assignments, IsPins, IsList, Begins}
+use Rattle.grammar.specs.Lists.{Nops, IsTerm, Further, Value, Assignments, IsPins, IsList}
 
 -- what completes a list from each state of the automaton
 

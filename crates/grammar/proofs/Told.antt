@@ -1,19 +1,7 @@
-use Rattle.std.proofs.Common.{◌≡◌, ℕ, zero, suc, ◌+◌, ◌<◌, ◌≤◌, Bool, true, false, cond, ◌⊎◌, List, [], ◌∷◌, ◌++◌, map, length, take, Some, None, Option, sym, refl, ap, ◌∙◌, subst, inl, inr, arith, take_all}
-use Rattle.catalogue.specs.declared.Block.{Block}
-use Rattle.catalogue.specs.declared.Block.TheVariants.{RisingEdge}
-use Rattle.item.specs.declared.mnemonic.Comparison.{Comparison}
-use Rattle.item.specs.declared.mnemonic.Operator.{Operator as Sign}
+use Rattle.std.proofs.Common.{◌≡◌, ℕ, suc, ◌+◌, ◌<◌, ◌≤◌, Bool, true, false, cond, List, [], ◌∷◌, ◌++◌, length, take, Some, None, Option, refl, ap, ◌∙◌, arith}
 use Rattle.item.specs.declared.item.Item.{Item}
-use Rattle.item.specs.declared.item.Item.TheVariants.{Nop, Start, Open, Close, Operand, Operator, Compare, Assign, EndIf, Call, Kind, Pin, Direct, Mark, End}
-use Rattle.grammar.specs.declared.automaton.Side.{Side}
-use Rattle.grammar.specs.declared.automaton.Side.TheVariants.{First, Joined, Compared}
-use Rattle.grammar.specs.declared.automaton.Grammar.{Grammar}
-use Rattle.grammar.specs.declared.automaton.Grammar.TheVariants.{Between, Term, After, Assigned, Named, Pins, Done}
-use Rattle.rule.specs.Automata.{Automaton, reached, then, fault_on, fault_from, first_fault}
-use Rattle.grammar.specs.Grammar.{grammar, pin_count, waiting, joins, grammar_step}
-use Rattle.grammar.specs.Lists.{Nops, IsTerm, Further, Value, Assignments, IsPins, IsList, Begins}
+use Rattle.rule.specs.Automata.{Automaton, reached, then, fault_on, fault_from}
 use Rattle.rule.specs.Automata.{known}
-use Rattle.grammar.proofs.Sound.{none_some, some_same}
 
 -- Of every automaton.
 module _ {S : Type 0} (a : Automaton S) where

@@ -1,17 +1,13 @@
-use Rattle.std.proofs.Common.{◌≡◌, ℕ, zero, suc, ◌+◌, ◌<◌, ◌≤◌, Bool, true, false, ◌⊎◌, List, [], ◌∷◌, ◌++◌, length, take, Some, None, Option, sym, refl, ap, ◌∙◌, subst, inl, inr, zero-add, arith, take_all}
-use Rattle.catalogue.specs.declared.Block.{Block}
+use Rattle.std.proofs.Common.{◌≡◌, ℕ, zero, suc, Bool, true, false, List, [], ◌∷◌, ◌++◌, take, Some, None, Option, sym, refl, ap, ◌∙◌, subst, arith, take_all}
 use Rattle.catalogue.specs.declared.Block.TheVariants.{RisingEdge}
-use Rattle.item.specs.declared.mnemonic.Comparison.{Comparison}
-use Rattle.item.specs.declared.mnemonic.Operator.{Operator as Sign}
 use Rattle.item.specs.declared.item.Item.{Item}
-use Rattle.item.specs.declared.item.Item.TheVariants.{Nop, Start, Open, Close, Operand, Operator, Compare, Assign, EndIf, Call, Kind, Pin, Direct, Mark, End}
+use Rattle.item.specs.declared.item.Item.TheVariants.{Close, Operand, Operator, EndIf, Kind, Direct, End}
 use Rattle.grammar.specs.declared.automaton.Side.{Side}
-use Rattle.grammar.specs.declared.automaton.Side.TheVariants.{First, Joined, Compared}
 use Rattle.grammar.specs.declared.automaton.Grammar.{Grammar}
 use Rattle.grammar.specs.declared.automaton.Grammar.TheVariants.{Between, Term, After, Assigned, Named, Pins, Done}
-use Rattle.rule.specs.Automata.{Automaton, reached, then, first_fault, known}
+use Rattle.rule.specs.Automata.{reached, then, first_fault, known}
 use Rattle.grammar.specs.Grammar.{grammar, waiting, done}
-use Rattle.grammar.specs.Lists.{Nops, IsTerm, Further, Value, Assignments, IsPins, IsList, Begins, Judged}
+use Rattle.grammar.specs.Lists.{Begins, Judged}
 use Rattle.operand.specs.declared.operand.Operand.{Operand as Place}
 use Rattle.operand.specs.declared.kind.Kind.TheVariants.{Input}
 use Rattle.item.specs.declared.mnemonic.Operator.TheVariants.{And}

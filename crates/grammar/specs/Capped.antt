@@ -1,6 +1,5 @@
 -- A question that gives up on a nesting that no memory could hold.
-use Rattle.std.specs.Prelude.{◌≡◌, ℕ, ◌+◌, ◌-◌, ◌^◌, ◌≤◌, Bool, true, false, cond, List, length, Some, None, Option, nat_lt}
-use Rattle.item.specs.declared.item.Item.{Item}
+use Rattle.std.specs.Prelude.{ℕ, ◌-◌, ◌^◌, cond, None, nat_lt}
 use Rattle.rule.specs.Automata.{Automaton}
 
 -- the same question, which refuses every item once its size has come to the limit

@@ -1,10 +1,10 @@
 -- The words of a list that grows, and how many they are.
-use Rattle.std.proofs.Common.{◌≡◌, ℕ, ◌+◌, ◌*◌, ◌<◌, ◌≤◌, List, [], ◌∷◌, ◌++◌, length, get_or, take, sym, refl, ap, ◌∙◌, append_assoc, arith, length-append}
+use Rattle.std.proofs.Common.{◌≡◌, ℕ, ◌+◌, ◌*◌, ◌<◌, List, [], ◌∷◌, ◌++◌, length, get_or, take, sym, refl, ap, ◌∙◌, arith, length-append}
 use Rattle.std.proofs.lemmas.List.{take_more}
 use Rattle.operand.specs.declared.edition.Edition.{Edition}
 use Rattle.item.specs.Items.{item_cells}
 use Rattle.item.specs.declared.item.Item.{Item}
-use Rattle.image.specs.Images.{item_pair, item_words, constant_triple, constant_words, cells_sum, image_length, trailer_of, words_of}
+use Rattle.image.specs.Images.{item_pair, item_words, constant_triple, constant_words, cells_sum, image_length, words_of}
 use Rattle.image.specs.declared.constant.Constant.{Constant}
 
 item_words_push : (xs : List Item) (x : Item) → item_words xs ++ item_pair x ≡ item_words (xs ++ (x ∷ []))

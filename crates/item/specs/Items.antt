@@ -1,5 +1,5 @@
 -- The items of a list: the number and the argument of each.
-use Rattle.std.specs.Prelude.{ℕ, ◌+◌, List, [], ◌∷◌, Some, None, Option}
+use Rattle.std.specs.Prelude.{ℕ, Some, None, Option}
 use Rattle.operand.specs.Codes.{code_of}
 use Rattle.catalogue.specs.Blocks.{cells_of}
 use Rattle.catalogue.specs.Blocks as Blocks

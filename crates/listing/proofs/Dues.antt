@@ -1,13 +1,11 @@
 -- What is due for an image and a buffer.
-use Rattle.std.proofs.Common.{◌≡◌, ℕ, ◌≤◌, true, leb, List, ◌++◌, length, drop, Some, None, Ok, Err, Option, Result, sym, refl, ap, ◌∙◌, subst, arith}
+use Rattle.std.proofs.Common.{◌≡◌, ℕ, ◌≤◌, true, leb, List, ◌++◌, length, drop, Some, None, Option, sym, ap, ◌∙◌, arith}
 use Rattle.std.proofs.lemmas.Bool.{cond-true}
 use Rattle.std.proofs.lemmas.Bool.Decides.{nat_tests}
 use Rattle.lay.specs.Lays.{Lays}
 use Rattle.lay.proofs.Joins.{whole}
 use Rattle.told.specs.declared.Told.{Told}
-use Rattle.listing.specs.declared.refusal.ListRefusal.{ListRefusal}
-use Rattle.listing.specs.Refusals.{told_of}
-use Rattle.listing.specs.Listed.{Due, listed, no, fitted, unless_no, not_listed, text_of, due_for, answered, left_by}
+use Rattle.listing.specs.Listed.{listed, no, fitted, unless_no, not_listed, text_of, due_for}
 
 pub record Fits (text old new : List ℕ) (n : ℕ) : Type 0 where
   pub answer : listed n ≡ fitted text (length old)

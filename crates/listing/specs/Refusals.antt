@@ -1,5 +1,4 @@
 -- Each refusal of a listing: the number of the question that got a no, and the place.
-use Rattle.std.specs.Prelude.{ℕ}
 use Rattle.told.specs.declared.Told.{Told}
 use Rattle.checker.specs.declared.refusal.CheckRefusal.{CheckRefusal}
 use Rattle.checker.specs.Refusals.{no_to}

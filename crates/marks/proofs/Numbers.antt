@@ -1,9 +1,9 @@
 -- An item is known by its number.
-use Rattle.std.proofs.Common.{◌≡◌, ℕ, ◌/◌, Bool, true, false, List, length, Some, None, Option, sym, refl, ap, ◌∙◌, subst, arith, eq-eqb}
+use Rattle.std.proofs.Common.{◌≡◌, ℕ, ◌/◌, true, false, List, length, Some, None, Option, sym, refl, ap, ◌∙◌, arith, eq-eqb}
 use Rattle.operand.specs.declared.edition.Edition.{Edition}
 use Rattle.item.specs.declared.item.Item.{Item}
 use Rattle.item.specs.declared.item.Item.TheVariants.{Nop, Start, Open, Close, Operand, Operator, Compare, Assign, EndIf, Call, Kind, Pin, Direct, Mark, End}
-use Rattle.item.specs.Items.{number_of, item_cells}
+use Rattle.item.specs.Items.{number_of}
 use Rattle.decode.specs.Decoded.{item_decoded}
 use Rattle.decode.proofs.Exact.{decoded_exactly}
 use Rattle.std.proofs.lemmas.Bool.{eqb-true}

@@ -1,5 +1,5 @@
 -- The sum of cells, word by word.
-use Rattle.std.proofs.Common.{◌≡◌, ℕ, suc, ◌+◌, ◌*◌, ◌/◌, ◌%◌, ◌<◌, min, List, length, get_or, sym, refl, ap, ◌∙◌, arith}
+use Rattle.std.proofs.Common.{◌≡◌, ℕ, suc, ◌+◌, ◌*◌, ◌/◌, ◌%◌, ◌<◌, min, List, length, get_or, ap, ◌∙◌, arith}
 use Rattle.operand.specs.declared.edition.Edition.{Edition}
 use Rattle.decode.specs.Decoded.{item_decoded}
 use Rattle.marks.specs.Cells.{cells_asked, cells_before, cells_until}

@@ -1,5 +1,5 @@
 -- Two memories that agree on an operand agree on it after the same store.
-use Rattle.std.proofs.Common.{◌≡◌, ℕ, zero, suc, ◌+◌, ◌*◌, ◌/◌, ◌%◌, Bool, true, false, cond, eqb, List, [], ◌∷◌, length, get_or, set, ℤ, pos, sym, refl, ap, ◌∙◌, subst, arith}
+use Rattle.std.proofs.Common.{◌≡◌, ℕ, zero, suc, ◌/◌, ◌%◌, Bool, true, false, cond, eqb, List, [], ◌∷◌, length, get_or, set, ℤ, pos, sym, refl, ◌∙◌, arith}
 use Rattle.number.specs.Limits.{corrected, limited_to}
 use Rattle.number.specs.declared.limit.Width.TheVariants.{Word, Double}
 use Rattle.operand.specs.declared.kind.Kind.{Kind}
@@ -11,7 +11,7 @@ use Rattle.store.specs.declared.store.Store.{Store}
 use Rattle.store.specs.Chains.{moved_to, no_chain}
 use Rattle.store.specs.Words.{bit, truth}
 use Rattle.store.specs.Values.{value_at}
-use Rattle.store.specs.Changes.{step_set, stored_at, with_outputs, with_markers, with_chains, with_output_words, with_marker_words, with_marker_doubles}
+use Rattle.store.specs.Changes.{step_set, stored_at, with_outputs, with_markers, with_output_words, with_marker_words, with_marker_doubles}
 use Rattle.memory.specs.Readings.{value_of}
 use Rattle.memory.specs.Writings.{stored}
 use Rattle.memory.proofs.Held.{Held, size_at}

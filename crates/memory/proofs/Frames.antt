@@ -1,9 +1,8 @@
 -- Where one array is exchanged, only the operands of its kind can read anew.
-use Rattle.std.proofs.Common.{◌≡◌, ℕ, zero, suc, ◌+◌, ◌-◌, ◌*◌, ◌/◌, ◌%◌, ◌<◌, ◌≤◌, Bool, true, false, cond, ◌&&◌, ◌≢◌, List, length, get_or, set, ℤ, pos, sym, refl, ap, ◌∙◌, subst, ⊎_elim, arith, get_or-set_other, get_or-set_same}
+use Rattle.std.proofs.Common.{◌≡◌, ℕ, zero, suc, ◌+◌, ◌/◌, ◌<◌, ◌≤◌, Bool, false, List, length, get_or, set, ℤ, pos, sym, refl, ap, ◌∙◌, ⊎_elim, arith, get_or-set_other, get_or-set_same}
 use Rattle.std.proofs.lemmas.Bool.{cases_eq}
-use Rattle.number.specs.declared.limit.Width.TheVariants.{Word, Double}
 use Rattle.operand.specs.declared.kind.Kind.{Kind}
-use Rattle.operand.specs.declared.kind.Kind.TheVariants.{Input, Output, Marker, Step, Constant, InputWord, OutputWord, MarkerWord, ConstantWord, MarkerDouble, ConstantDouble}
+use Rattle.operand.specs.declared.kind.Kind.TheVariants.{Input, Output, Marker, Step, InputWord, OutputWord, MarkerWord, ConstantWord, MarkerDouble, ConstantDouble}
 use Rattle.store.specs.declared.chain.Chain.{Chain}
 use Rattle.store.specs.declared.store.Store.{Store}
 use Rattle.store.specs.Chains.{no_chain}

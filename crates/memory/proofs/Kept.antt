@@ -1,11 +1,10 @@
 -- The laws, over all sound memories.
-use Rattle.std.proofs.Common.{◌≡◌, List, length, ℤ, refl}
+use Rattle.std.proofs.Common.{List, ℤ, refl}
 use Rattle.operand.specs.Codes.{place_of}
 use Rattle.store.specs.declared.store.Store.{Store}
 use Rattle.memory.specs.Keeps.{StaysSound, LawsHold}
 use Rattle.memory.specs.Laws.{LendsHistory}
 use Rattle.memory.specs.Readings.{value_of, cell_of}
-use Rattle.memory.specs.Sound.{Sound}
 use Rattle.memory.specs.Writings.{new_memory, stored, constant_loaded, inputs_loaded, input_word_loaded, cell_stored, cleared, cells_cleared, history_put}
 use Rattle.memory.proofs.Alike.{alike_law}
 use Rattle.memory.proofs.Frames.{only_history}

@@ -1,12 +1,10 @@
 -- What loading and clearing do to the operands and cells.
-use Rattle.std.proofs.Common.{◌≡◌, ℕ, zero, suc, ◌+◌, ◌-◌, ◌*◌, ◌/◌, ◌%◌, ◌<◌, ◌≤◌, Bool, true, false, cond, ◌&&◌, eqb, List, length, get_or, set, replicate, ℤ, pos, sym, refl, ap, ◌∙◌, subst, arith, get_or-set_other, get_or-set_same}
+use Rattle.std.proofs.Common.{◌≡◌, ℕ, zero, suc, ◌+◌, ◌-◌, ◌*◌, ◌/◌, ◌%◌, ◌<◌, ◌≤◌, false, eqb, List, length, get_or, set, replicate, ℤ, pos, sym, refl, ap, ◌∙◌, subst, arith, get_or-set_other, get_or-set_same}
 use Rattle.number.specs.Limits.{corrected}
 use Rattle.number.specs.declared.limit.Width.TheVariants.{Word, Double}
-use Rattle.operand.specs.declared.edition.Edition.{Edition}
 use Rattle.operand.specs.declared.kind.Kind.{Kind}
 use Rattle.operand.specs.declared.kind.Kind.TheVariants.{Input, Output, Marker, Step, Constant, InputWord, OutputWord, MarkerWord, ConstantWord, MarkerDouble, ConstantDouble}
-use Rattle.operand.specs.declared.operand.Operand.{Operand}
-use Rattle.operand.specs.Codes.{place_of, in_range}
+use Rattle.operand.specs.Codes.{place_of}
 use Rattle.store.specs.declared.chain.Chain.{Chain}
 use Rattle.store.specs.declared.store.Store.{Store}
 use Rattle.store.specs.Chains.{at_rest, no_chain}

@@ -1,15 +1,13 @@
 -- The tests of the arrays and what they say of operands are the same.
-use Rattle.std.proofs.Common.{◌≡◌, ℕ, zero, suc, ◌+◌, ◌-◌, ◌*◌, ◌/◌, ◌%◌, ◌<◌, ◌≤◌, Bool, true, false, cond, ◌&&◌, eqb, ltb, List, [], ◌∷◌, length, get_or, ℤ, pos, sym, refl, ap, ◌∙◌, subst, arith}
+use Rattle.std.proofs.Common.{◌≡◌, ℕ, zero, suc, ◌+◌, ◌*◌, ◌/◌, ◌%◌, ◌<◌, Bool, true, false, eqb, List, [], ◌∷◌, length, get_or, ℤ, pos, sym, refl, ap, ◌∙◌, arith}
 use Rattle.std.proofs.lemmas.Bool.{and_from, and_parts, lt-ltb, ltb-true, eqb-true, eq-eqb}
-use Rattle.std.proofs.lemmas.Bool.Decides.{nat_tests}
 use Rattle.number.specs.Limits.{lawful}
 use Rattle.number.specs.declared.limit.Width.{Width}
 use Rattle.number.specs.declared.limit.Width.TheVariants.{Word, Double}
-use Rattle.store.specs.declared.chain.Chain.{Chain}
 use Rattle.store.specs.declared.store.Store.{Store}
-use Rattle.store.specs.Chains.{is_set, no_chain}
+use Rattle.store.specs.Chains.{no_chain}
 use Rattle.store.specs.Words.{bit}
-use Rattle.memory.specs.Facts.{every, in_chain, steps_lawful, all_lawful, sizes_of, all_sizes}
+use Rattle.memory.specs.Facts.{every, in_chain, all_lawful}
 use Rattle.memory.specs.Readings.{value_of}
 use Rattle.memory.specs.Sound.{Sound, OneSet, HoldsLawful, step_at}
 use Rattle.memory.proofs.Held.{Held, size_at}

@@ -1,8 +1,8 @@
 -- What a store does to the operands and cells.
-use Rattle.std.proofs.Common.{◌≡◌, ℕ, zero, suc, ◌+◌, ◌-◌, ◌*◌, ◌/◌, ◌%◌, ◌<◌, ◌≤◌, Bool, true, false, cond, ◌&&◌, ◌||◌, eqb, leb, List, length, get_or, set, ℤ, pos, sym, refl, ap, ◌∙◌, subst, arith, get_or-set_other, get_or-set_same}
-use Rattle.std.proofs.lemmas.Bool.{and_parts, cond-true, cond-false}
+use Rattle.std.proofs.Common.{◌≡◌, ℕ, ◌+◌, ◌*◌, ◌/◌, ◌%◌, ◌<◌, Bool, true, false, cond, eqb, leb, List, length, get_or, set, ℤ, pos, sym, refl, ap, ◌∙◌, arith, get_or-set_other, get_or-set_same}
+use Rattle.std.proofs.lemmas.Bool.{and_parts, cond-false}
 use Rattle.std.proofs.lemmas.Bool.Decides.{nat_tests}
-use Rattle.number.specs.Limits.{lawful, limited_to, corrected}
+use Rattle.number.specs.Limits.{limited_to, corrected}
 use Rattle.number.specs.declared.limit.Width.{Width}
 use Rattle.number.specs.declared.limit.Width.TheVariants.{Word, Double}
 use Rattle.number.proofs.Lawful.{limited_lawful, limited_same}
@@ -18,8 +18,8 @@ use Rattle.store.specs.declared.store.Store.{Store}
 use Rattle.store.specs.Chains.{moved_to, no_chain}
 use Rattle.store.specs.Words.{bit, truth}
 use Rattle.store.specs.Values.{value_at}
-use Rattle.store.specs.Changes.{step_set, stored_at, constant_at, cell_put}
-use Rattle.memory.specs.Laws.{CellsKept, OperandsKept, SameTarget, TargetOf, ReadsBack, Stores, ConstantBack, LoadsConstant, StoresCell, channel_of}
+use Rattle.store.specs.Changes.{step_set, stored_at, constant_at}
+use Rattle.memory.specs.Laws.{SameTarget, ReadsBack, Stores, ConstantBack, LoadsConstant, StoresCell, channel_of}
 use Rattle.memory.specs.Readings.{value_of, cell_of}
 use Rattle.memory.specs.Writings.{stored, constant_loaded, cell_stored}
 use Rattle.memory.proofs.Held.{Held, size_at}

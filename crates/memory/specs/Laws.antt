@@ -1,5 +1,5 @@
 -- What the changes of memory do to operands and history cells.
-use Rattle.std.specs.Prelude.{◌≡◌, ℕ, ◌/◌, ◌%◌, ◌<◌, ◌≤◌, Bool, true, false, cond, ◌&&◌, List, ℤ, pos, ◌==◌, ◌≢◌, slice_index_or}
+use Rattle.std.specs.Prelude.{◌≡◌, ℕ, ◌/◌, ◌%◌, ◌<◌, ◌≤◌, true, false, List, ℤ, pos, ◌==◌, ◌≢◌, slice_index_or}
 use Rattle.number.specs.Limits.{corrected, limited_to}
 use Rattle.number.specs.declared.limit.Width.TheVariants.{Word, Double}
 use Rattle.operand.specs.declared.edition.Edition.{Edition}

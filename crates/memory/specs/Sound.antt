@@ -1,5 +1,5 @@
 -- Sound memory: each chain has exactly one step set, and nothing that operands write is forbidden.
-use Rattle.std.specs.Prelude.{◌≡◌, ℕ, ◌<◌, Bool, true, List, ℤ, pos, ◌==◌, slice_index_or}
+use Rattle.std.specs.Prelude.{◌≡◌, ℕ, ◌<◌, true, List, ℤ, pos, ◌==◌, slice_index_or}
 use Rattle.number.specs.Limits.{lawful}
 use Rattle.number.specs.declared.limit.Width.{Width}
 use Rattle.number.specs.declared.limit.Width.TheVariants.{Word, Double}

@@ -7,7 +7,7 @@ use Rattle.operand.specs.declared.edition.Edition.TheVariants.{Series90}
 use Rattle.operand.specs.declared.kind.Kind.{Kind}
 use Rattle.operand.specs.declared.kind.Kind.TheVariants.{Input, Output, Marker, Step, Constant, InputWord, OutputWord, MarkerWord, ConstantWord, MarkerDouble, ConstantDouble}
 use Rattle.operand.specs.declared.operand.Operand.{Operand}
-use Rattle.operand.specs.Codes.{in_range, place_of}
+use Rattle.operand.specs.Codes.{in_range}
 use Rattle.operand.specs.Ranges.{ranges_of, any_holds}
 use Rattle.named.specs.Naming.{at_side, by_kind, group_point, word_point, operand_point, edition_point}
 

@@ -1,5 +1,5 @@
 -- The sets of named points.
-use Rattle.std.specs.Prelude.{◌≡◌, ℕ, zero, suc, ◌+◌, ◌<◌, Bool, true, false, ◌&&◌, ◌||◌, List, Some, None, Option, ◌==◌, slice_index_or}
+use Rattle.std.specs.Prelude.{◌≡◌, ℕ, zero, suc, ◌<◌, Bool, true, false, ◌&&◌, ◌||◌, List, Some, None, Option, ◌==◌, slice_index_or}
 use Rattle.operand.specs.declared.edition.Edition.{Edition}
 use Rattle.named.specs.declared.point.Side.{Side}
 use Rattle.named.specs.declared.point.Side.TheVariants.{Input, Output}

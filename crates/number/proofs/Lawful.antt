@@ -1,6 +1,5 @@
 -- What is limited is lawful, and what is lawful is not changed by limiting.
-use Rattle.std.proofs.Common.{◌≡◌, true, ℤ, pos, negsuc, refl, arith}
-use Rattle.std.proofs.lemmas.Int.{ints}
+use Rattle.std.proofs.Common.{◌≡◌, true, ℤ, pos, negsuc, arith}
 use Rattle.std.proofs.lemmas.Bool.Decides.{nat_tests}
 use Rattle.number.specs.Limits.{limited_to, lawful}
 use Rattle.number.specs.declared.limit.Width.{Width}

@@ -1,11 +1,11 @@
 -- One digit after another: what is left to read gives the number.
-use Rattle.std.proofs.Common.{◌≡◌, ℕ, ◌+◌, ◌-◌, ◌*◌, ◌<◌, ◌≤◌, Bool, true, false, cond, ◌&&◌, eqb, List, [], ◌∷◌, length, get_or, take, drop, Some, None, Option, sym, refl, ap, ◌∙◌, arith, take_all}
+use Rattle.std.proofs.Common.{◌≡◌, ℕ, ◌+◌, ◌-◌, ◌*◌, ◌<◌, ◌≤◌, true, false, cond, List, [], ◌∷◌, length, get_or, take, drop, Some, None, Option, sym, refl, ap, ◌∙◌, arith, take_all}
 use Rattle.std.specs.Str.{all_ascii_digits}
 use Rattle.std.proofs.lemmas.List.{at_drop_more, at_drop_all}
 use Rattle.std.proofs.lemmas.Bool.{cond-true, eq-eqb}
 use Rattle.std.proofs.lemmas.Bool.Decides.{nat_tests}
 use Rattle.character.specs.Classes.{is_digit}
-use Rattle.numeral.specs.Numerals.{value_on, natural, written_as, minus_of, plain_of, up_to, digit_on}
+use Rattle.numeral.specs.Numerals.{value_on, natural, written_as, minus_of, up_to, digit_on}
 
 -- what the digits that are left make of n
 abbrev pub rest : ℕ → ℕ → List ℕ → Option ℕ

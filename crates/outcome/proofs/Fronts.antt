@@ -1,13 +1,11 @@
 -- The image that stands first in the buffer.
-use Rattle.std.proofs.Common.{◌≡◌, ℕ, ◌-◌, Bool, true, false, cond, ◌&&◌, leb, List, [], ◌∷◌, ◌++◌, length, take, Ok, Err, sym, refl, ap, ◌∙◌, subst, arith}
+use Rattle.std.proofs.Common.{◌≡◌, ℕ, ◌-◌, Bool, true, false, cond, ◌&&◌, leb, List, [], ◌∷◌, ◌++◌, length, take, Ok, Err, sym, refl, ap, ◌∙◌, arith}
 use Rattle.operand.specs.declared.edition.Edition.{Edition}
 use Rattle.image.specs.declared.write.Written.{Written}
 use Rattle.image.specs.declared.write.WriteRefusal.TheVariants.{TooMany, TooLong}
 use Rattle.image.specs.Images.{words_of, most_items, most_constants}
 use Rattle.image.specs.Writes.{counts_of}
-use Rattle.translate.specs.Translation.{Translation, translated, refused, Due, written, no, write_due, due_for, image_of}
-use Rattle.outcome.specs.Lines.{verdict_on}
-use Rattle.checker.specs.Verdict.{Verdict, verdict_of}
+use Rattle.translate.specs.Translation.{Translation, translated, refused, written, write_due, due_for, image_of}
 
 pub written_length : (e : Edition) (t : Translation) (room : ℕ) (w : Written) → due_for e t room ≡ written w → w.length ≡ length (image_of e t)
 written_length e (translated is cs) room w h = by (leb (length is) most_items && leb (length cs) most_constants) (leb (length (words_of e is cs)) room) h

@@ -1,8 +1,8 @@
 -- The one line that is printed of a list.
-use Rattle.std.specs.Prelude.{◌≡◌, ℕ, Bool, true, false, List, ◌++◌, Some, None, string_bytes, codes, decimal}
+use Rattle.std.specs.Prelude.{◌≡◌, ℕ, true, false, List, ◌++◌, Some, None, string_bytes, codes, decimal}
 use Rattle.operand.specs.declared.edition.Edition.TheVariants.{Series90}
 use Rattle.told.specs.Lines.{refused_line}
-use Rattle.translate.specs.Translation.{Due, written, no, Translation, due_for, image_of, translation_of}
+use Rattle.translate.specs.Translation.{Due, written, no, due_for, image_of, translation_of}
 use Rattle.checker.specs.Verdict.{Verdict, passed, refused, verdict_of}
 use Rattle.outcome.specs.declared.Report.{Report}
 

@@ -1,7 +1,7 @@
 -- Each rule finds no fault in a list exactly when its question gets a yes.
-use Rattle.std.proofs.Common.{◌≡◌, ℕ, ◌+◌, Bool, true, false, List, Some, sym, refl, ap, ◌∙◌, subst, arith}
+use Rattle.std.proofs.Common.{◌≡◌, ℕ, List, Some, refl, arith}
 use Rattle.item.specs.declared.item.Item.{Item}
-use Rattle.rule.specs.Automata.{Automaton, reached}
+use Rattle.rule.specs.Automata.{reached}
 use Rattle.grammar.specs.declared.automaton.Grammar.TheVariants.{Between, Done}
 use Rattle.grammar.specs.Grammar.{grammar}
 use Rattle.grammar.specs.Lists.{IsList}
@@ -13,7 +13,7 @@ use Rattle.fitting.specs.Types.{types}
 use Rattle.fitting.specs.Targets.{targets}
 use Rattle.fitting.specs.Pins.{pins}
 use Rattle.questions.specs.Everywhere.{Each, Everywhere}
-use Rattle.questions.specs.Brackets.{Shallow, opened, closed}
+use Rattle.questions.specs.Brackets.{Shallow}
 use Rattle.questions.specs.Sentences.{Typed}
 use Rattle.questions.specs.Targets.{Written}
 use Rattle.questions.specs.Calls.{Pinned}

@@ -13,7 +13,7 @@ use Rattle.grammar.specs.declared.automaton.Grammar.TheVariants as Phase
 use Rattle.grammar.specs.Grammar.{grammar, grammar_step, done, waiting, pin_count}
 use Rattle.fitting.specs.declared.pins.Pins.{Pins}
 use Rattle.fitting.specs.declared.pins.Pins.TheVariants.{Idle, At}
-use Rattle.fitting.specs.Pins.{pins, pin_step, next_pin, nth_pin, pin_of, operand_fits, direct_fits, operand_at_pin, direct_at_pin}
+use Rattle.fitting.specs.Pins.{pins, pin_step, next_pin, nth_pin, pin_of, operand_at_pin, direct_at_pin}
 use Rattle.operand.specs.declared.operand.Operand.{Operand as Place}
 use Rattle.questions.specs.Everywhere.{Everywhere}
 use Rattle.questions.specs.Calls.{takes, FitPins, Pinned}

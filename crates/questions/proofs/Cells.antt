@@ -1,11 +1,11 @@
 -- Question 12: the sum by places is the sum over the items.
-use Rattle.std.proofs.Common.{◌≡◌, ℕ, zero, suc, ◌+◌, ◌*◌, ◌/◌, ◌<◌, List, [], ◌∷◌, length, Some, sym, refl, ap, ◌∙◌, subst, arith}
+use Rattle.std.proofs.Common.{◌≡◌, ℕ, suc, ◌+◌, ◌/◌, ◌<◌, List, [], ◌∷◌, length, ap, ◌∙◌, arith}
 use Rattle.operand.specs.declared.edition.Edition.{Edition}
 use Rattle.item.specs.declared.item.Item.{Item}
 use Rattle.item.specs.Items.{item_cells}
 use Rattle.image.specs.Images.{cells_sum}
 use Rattle.rule.specs.Automata.{known}
-use Rattle.rule.specs.Words.{item_at, items_from}
+use Rattle.rule.specs.Words.{items_from}
 use Rattle.marks.specs.Cells.{cells_asked, cells_before, all_cells}
 use Rattle.questions.proofs.Places.{at_place, behind_place, how_many}
 

@@ -1,13 +1,12 @@
 -- Question 11: no jump goes astray exactly when each has its mark ahead.
-use Rattle.std.proofs.Common.{◌≡◌, ℕ, zero, suc, ◌+◌, ◌-◌, ◌*◌, ◌/◌, ◌<◌, ◌≤◌, Bool, true, false, cond, ltb, ◌⊎◌, List, [], ◌∷◌, length, Some, None, Option, sym, refl, ap, ◌∙◌, subst, inl, inr, arith}
+use Rattle.std.proofs.Common.{◌≡◌, ℕ, zero, suc, ◌+◌, ◌-◌, ◌/◌, ◌<◌, ◌≤◌, Bool, true, false, cond, ltb, List, [], ◌∷◌, length, Some, None, Option, sym, refl, ap, ◌∙◌, subst, inl, inr, arith}
 use Rattle.std.proofs.lemmas.Bool.Decides.{nat_tests}
 use Rattle.std.proofs.lemmas.Bool.{cond-true}
 use Rattle.operand.specs.declared.edition.Edition.{Edition}
-use Rattle.catalogue.specs.declared.Block.{Block}
 use Rattle.catalogue.specs.declared.Block.TheVariants.{Esv, Moa, RisingEdge, Ctud, Muldi, Zuwd, Spbm}
 use Rattle.item.specs.declared.item.Item.{Item}
 use Rattle.item.specs.declared.item.Item.TheVariants.{Nop, Start, Open, Close, Operand, Operator, Compare, Assign, EndIf, Call, Kind, Pin, Direct, Mark, End}
-use Rattle.rule.specs.Automata.{items_of, known}
+use Rattle.rule.specs.Automata.{known}
 use Rattle.rule.specs.Words.{item_at, items_from}
 use Rattle.rule.proofs.Passing.{items_more}
 use Rattle.marks.specs.Places.{First}
@@ -16,7 +15,7 @@ use Rattle.marks.specs.Jumps.{jumps, direct_in, direct_at, target_at, astray_to,
 use Rattle.marks.proofs.Firsts.{exact}
 use Rattle.marks.proofs.Numbers.{next_exact}
 use Rattle.questions.specs.Everywhere.{Everywhere}
-use Rattle.questions.specs.Jumps.{Ahead, SecondAhead, BlockLed, Led}
+use Rattle.questions.specs.Jumps.{Ahead, SecondAhead, Led}
 use Rattle.questions.proofs.Places.{at_place, behind_place, how_many}
 
 module _ (e : Edition) (ws : List ℕ) where

@@ -1,8 +1,7 @@
 -- Question 5: every item is known exactly when the words are those of lawful items.
-use Rattle.std.proofs.Common.{◌≡◌, ℕ, zero, suc, ◌+◌, ◌*◌, List, [], ◌∷◌, length, Some, None, Option, sym, refl, ap, ◌∙◌, subst, arith}
+use Rattle.std.proofs.Common.{◌≡◌, ℕ, zero, suc, ◌*◌, List, [], ◌∷◌, length, Some, sym, refl, arith}
 use Rattle.operand.specs.declared.edition.Edition.{Edition}
 use Rattle.item.specs.declared.item.Item.{Item}
-use Rattle.item.specs.Items.{number_of, argument_of}
 use Rattle.image.specs.Images.{item_words}
 use Rattle.decode.specs.Decoded.{Lawful, item_decoded}
 use Rattle.decode.proofs.Exact.{again, decoded_exactly}

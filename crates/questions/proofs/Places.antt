@@ -1,8 +1,8 @@
 -- Items by place, and items as a list.
-use Rattle.std.proofs.Common.{◌≡◌, ℕ, zero, suc, ◌+◌, ◌*◌, ◌/◌, ◌<◌, ◌≤◌, List, [], ◌∷◌, length, drop, Some, None, Option, sym, refl, ap, ◌∙◌, subst, arith}
+use Rattle.std.proofs.Common.{◌≡◌, ℕ, zero, suc, ◌+◌, ◌/◌, ◌<◌, List, [], ◌∷◌, length, Some, sym, refl, ◌∙◌, arith}
 use Rattle.operand.specs.declared.edition.Edition.{Edition}
 use Rattle.item.specs.declared.item.Item.{Item}
-use Rattle.rule.specs.Automata.{items_of, known}
+use Rattle.rule.specs.Automata.{known}
 use Rattle.rule.specs.Words.{item_at, items_from}
 use Rattle.rule.proofs.Passing.{items_more, items_all}
 

@@ -1,5 +1,5 @@
 -- A rule finds no fault exactly when it comes through all items to a state where the list may end.
-use Rattle.std.proofs.Common.{◌≡◌, ℕ, ◌+◌, Bool, true, false, cond, List, [], ◌∷◌, Some, None, Option, sym, refl, ap, ◌∙◌, subst, arith}
+use Rattle.std.proofs.Common.{◌≡◌, ℕ, ◌+◌, true, List, [], ◌∷◌, Some, None, Option, refl, ap, ◌∙◌, arith}
 use Rattle.std.proofs.lemmas.Bool.{cond-true}
 use Rattle.item.specs.declared.item.Item.{Item}
 use Rattle.rule.specs.Automata.{Automaton, fault_on, fault_from, first_fault, known, reached, then}

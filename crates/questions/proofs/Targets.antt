@@ -5,7 +5,6 @@ use Rattle.std.proofs.lemmas.Bool.{cond-true}
 use Rattle.operand.specs.declared.operand.Operand.{Operand as Place}
 use Rattle.operand.specs.Codes.{may_write}
 use Rattle.item.specs.declared.mnemonic.Form.{Form}
-use Rattle.item.specs.declared.mnemonic.Form.TheVariants as Form
 use Rattle.item.specs.declared.item.Item.{Item}
 use Rattle.item.specs.declared.item.Item.TheVariants.{Nop, Start, Open, Close, Operand, Operator, Compare, Assign, EndIf, Call, Kind, Pin, Direct, Mark, End}
 use Rattle.rule.specs.Automata.{reached}

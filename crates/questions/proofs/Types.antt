@@ -1,15 +1,13 @@
 -- Question 8: the rule of types lets a list through exactly when each sentence has one type.
-use Rattle.std.proofs.Common.{◌≡◌, ℕ, zero, suc, ◌+◌, Bool, true, false, cond, not, ◌&&◌, List, [], ◌∷◌, Some, None, Option, sym, refl, ap, ◌∙◌, subst, arith}
+use Rattle.std.proofs.Common.{◌≡◌, ℕ, Bool, true, false, cond, not, ◌&&◌, List, [], ◌∷◌, Some, None, Option, sym, refl, ap, ◌∙◌, subst, arith}
 use Rattle.std.proofs.lemmas.Bool.Decides.{nat_tests}
 use Rattle.operand.specs.declared.kind.Size.{Size}
 use Rattle.operand.specs.declared.kind.Size.TheVariants.{Bit, Word, Double}
 use Rattle.item.specs.declared.mnemonic.Turn.{Turn}
-use Rattle.item.specs.declared.mnemonic.Turn.TheVariants as Turn
 use Rattle.item.specs.declared.item.Item.{Item}
 use Rattle.item.specs.declared.item.Item.TheVariants.{Nop, Start, Open, Close, Operand, Operator, Compare, Assign, EndIf, Call, Kind, Pin, Direct, Mark, End}
 use Rattle.rule.specs.Automata.{reached, opens}
 use Rattle.grammar.specs.declared.automaton.Side.{Side}
-use Rattle.grammar.specs.declared.automaton.Side.TheVariants as Side
 use Rattle.grammar.specs.declared.automaton.Grammar.{Grammar}
 use Rattle.grammar.specs.declared.automaton.Grammar.TheVariants.{Between, Term, After, Assigned, Named, Pins, Done}
 use Rattle.grammar.specs.Grammar.{grammar, grammar_step, done}

@@ -4,7 +4,6 @@ use Rattle.operand.specs.declared.kind.Size.{Size}
 use Rattle.operand.specs.declared.kind.Size.TheVariants.{Bit, Word, Double}
 use Rattle.operand.specs.Kinds.{size_of}
 use Rattle.item.specs.declared.mnemonic.Turn.{Turn}
-use Rattle.item.specs.declared.mnemonic.Turn.TheVariants as Turn
 use Rattle.item.specs.declared.mnemonic.Operator.{Operator as Sign}
 use Rattle.item.specs.declared.mnemonic.Operator.TheVariants.{And, AndNot, Or, OrNot, Add, Subtract, Multiply, MultiplyMinus, Divide, DivideMinus}
 use Rattle.item.specs.declared.item.Item.{Item}

@@ -1,5 +1,5 @@
 -- One token further in a text.
-use Rattle.std.proofs.Common.{◌≡◌, ℕ, ◌+◌, ◌<◌, ◌≤◌, Bool, true, false, List, [], ◌∷◌, map, length, get_or, drop, Some, None, Ok, Err, Option, sym, refl, ap, ◌∙◌}
+use Rattle.std.proofs.Common.{◌≡◌, ℕ, ◌+◌, ◌<◌, ◌≤◌, true, false, List, map, length, get_or, drop, Ok, Err, Option, sym, ap, ◌∙◌}
 use Rattle.std.proofs.lemmas.List.{at_drop_more, at_drop_all}
 use Rattle.std.proofs.lemmas.Bool.{cond-true, cond-false}
 use Rattle.operand.specs.declared.edition.Edition.{Edition}
@@ -11,7 +11,7 @@ use Rattle.follow.specs.declared.number.Misfit.{Misfit}
 use Rattle.follow.specs.declared.state.Step.{Step}
 use Rattle.follow.specs.Fits.{fitting}
 use Rattle.follow.specs.Steps.{next_step, may_end}
-use Rattle.reader.specs.Reading.{Read, Outcome, list, misfit, stepped, items_after, constants_after, go_on, ended, read_on}
+use Rattle.reader.specs.Reading.{Read, Outcome, list, misfit, items_after, constants_after, go_on, ended, read_on}
 use Rattle.follow.proofs.Fitted.{fitted, unfitted}
 
 abbrev next_of : Edition → Read → Placed → Option Step

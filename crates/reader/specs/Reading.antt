@@ -1,5 +1,5 @@
 -- The items and constants that the tokens of a text write.
-use Rattle.std.specs.Prelude.{◌≡◌, ℕ, ◌-◌, cond, List, [], ◌∷◌, ◌++◌, map, length, take, Some, None, Ok, Err, vec_items, Option, Result}
+use Rattle.std.specs.Prelude.{◌≡◌, ℕ, ◌-◌, cond, List, [], ◌∷◌, ◌++◌, length, take, Some, None, Ok, Err, vec_items, Option, Result}
 use Rattle.operand.specs.declared.edition.Edition.{Edition}
 use Rattle.item.specs.declared.item.Item.{Item}
 use Rattle.item.specs.declared.item.Item.TheVariants.{Call}
@@ -8,7 +8,6 @@ use Rattle.token.specs.Tokens.{Seen}
 use Rattle.follow.specs.declared.state.State.{State}
 use Rattle.follow.specs.declared.state.Asks.TheVariants.{Entry}
 use Rattle.follow.specs.declared.state.Put.{Put}
-use Rattle.follow.specs.declared.state.Put.TheVariants as Put
 use Rattle.follow.specs.declared.state.Step.{Step}
 use Rattle.reader.specs.declared.read.Program.{Program}
 use Rattle.reader.specs.declared.read.ReadRefusal.{ReadRefusal}

@@ -1,5 +1,5 @@
 -- The one line that is printed of a list.
-use Rattle.std.specs.Prelude.{◌≡◌, ℕ, Bool, true, false, List, ◌++◌, string_bytes, codes, decimal}
+use Rattle.std.specs.Prelude.{◌≡◌, ℕ, true, false, List, ◌++◌, string_bytes, codes, decimal}
 use Rattle.operand.specs.declared.edition.Edition.TheVariants.{Series90}
 use Rattle.image.specs.declared.write.Written.{Written}
 use Rattle.told.specs.Lines.{refused_line}

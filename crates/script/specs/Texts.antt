@@ -1,5 +1,5 @@
 -- How items and constants are written.
-use Rattle.std.specs.Prelude.{ℕ, List, [], ◌∷◌, ◌++◌, Some, None, codes, decimal, Option}
+use Rattle.std.specs.Prelude.{ℕ, List, ◌∷◌, ◌++◌, Some, None, codes, decimal, Option}
 use Rattle.std.specs.Fmt.{signed_decimal}
 use Rattle.operand.specs.declared.operand.Operand.{Operand as Place}
 use Rattle.operand.specs.Kinds.{letters_of}

@@ -1,5 +1,5 @@
 -- Which mnemonic, operand letters or block a run of bytes spells.
-use Rattle.std.specs.Prelude.{ℕ, zero, suc, Bool, true, false, cond, List, Some, None, Option}
+use Rattle.std.specs.Prelude.{ℕ, zero, suc, cond, List, Some, None, Option}
 use Rattle.std.specs.Str.{bytes_eq}
 use Rattle.operand.specs.declared.edition.Edition.{Edition}
 use Rattle.operand.specs.declared.kind.Kind.{Kind}

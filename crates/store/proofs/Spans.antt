@@ -1,5 +1,5 @@
 -- One place further: the steps of the loops over several places.
-use Rattle.std.proofs.Common.{◌≡◌, ℕ, zero, suc, ◌+◌, ◌-◌, ◌*◌, ◌/◌, ◌%◌, ◌^◌, ◌<◌, ◌≤◌, Bool, true, false, cond, eqb, List, get_or, set, sym, refl, ap, ◌∙◌, add-one, arith, pow_mono}
+use Rattle.std.proofs.Common.{◌≡◌, ℕ, zero, suc, ◌+◌, ◌-◌, ◌*◌, ◌/◌, ◌^◌, ◌<◌, ◌≤◌, Bool, true, false, cond, List, get_or, set, sym, refl, ap, ◌∙◌, add-one, arith, pow_mono}
 use Rattle.store.specs.Words.{shifted, bit_of}
 use Rattle.store.specs.Places.{filled, spread, gathered}
 

@@ -1,5 +1,5 @@
 -- What memory holds after a change.
-use Rattle.std.specs.Prelude.{ℕ, ◌+◌, ◌-◌, ◌*◌, ◌/◌, ◌%◌, Bool, false, cond, List, set, replicate, ℤ, pos, slice_index_or, slice_set}
+use Rattle.std.specs.Prelude.{ℕ, ◌+◌, ◌-◌, ◌*◌, ◌/◌, ◌%◌, Bool, false, cond, List, replicate, ℤ, pos, slice_index_or, slice_set}
 use Rattle.number.specs.Limits.{limited_to}
 use Rattle.number.specs.declared.limit.Width.TheVariants.{Word, Double}
 use Rattle.operand.specs.declared.kind.Kind.{Kind}

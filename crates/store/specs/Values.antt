@@ -1,5 +1,5 @@
 -- What memory tells of a place.
-use Rattle.std.specs.Prelude.{ℕ, ◌*◌, ◌/◌, ◌%◌, Bool, false, ℤ, pos, ◌==◌, slice_index, slice_index_or}
+use Rattle.std.specs.Prelude.{ℕ, ◌*◌, ◌/◌, ◌%◌, false, ℤ, pos, ◌==◌, slice_index, slice_index_or}
 use Rattle.number.specs.Limits.{corrected}
 use Rattle.number.specs.declared.limit.Width.TheVariants.{Word, Double}
 use Rattle.operand.specs.declared.kind.Kind.{Kind}

@@ -1,5 +1,5 @@
 -- The terminal strip: the input of point p at word 2p, its output at 2p + 1, fitted when that word exists.
-use Rattle.std.specs.Prelude.{◌≡◌, ℕ, ◌+◌, ◌*◌, ◌%◌, ◌<◌, ◌≤◌, cond, ◌&&◌, List, length, ◌==◌, nat_lt, slice_index}
+use Rattle.std.specs.Prelude.{ℕ, ◌+◌, ◌*◌, ◌%◌, ◌<◌, cond, ◌&&◌, List, length, ◌==◌, nat_lt, slice_index}
 use Rattle.std.proofs.lemmas.Bool.{le-ltb, cond-false, and_left}
 use Rattle.plant.specs.Points.{Meaning, Inside, absent, wired}
 

@@ -1,12 +1,12 @@
 -- A pair is cut at its first comma.
-use Rattle.std.proofs.Common.{◌≡◌, ℕ, ◌+◌, ◌-◌, ◌<◌, ◌≤◌, Bool, true, false, cond, eqb, List, [], ◌∷◌, ◌++◌, length, get_or, take, drop, is_some, Some, None, Decides, Option, sym, refl, ap, ◌∙◌, subst, append_assoc, append-nil, arith, rules}
+use Rattle.std.proofs.Common.{◌≡◌, ℕ, ◌+◌, ◌-◌, ◌<◌, ◌≤◌, Bool, true, false, eqb, List, [], ◌∷◌, ◌++◌, length, get_or, take, drop, is_some, Some, None, Decides, Option, sym, refl, ap, ◌∙◌, append_assoc, append-nil, arith, rules}
 use Rattle.std.specs.Str.{bytes_eq}
 use Rattle.std.proofs.lemmas.Slice.Eq.{bytes_eq-Decides}
 use Rattle.std.proofs.lemmas.List.{drop_more, take_more, drop_all, take_rest, take-append-drop}
 use Rattle.std.proofs.lemmas.Bool.{eqb-true, eqb-false, ne_eqb, false≢true}
 use Rattle.numeral.specs.Numerals.{natural}
 use Rattle.character.specs.Classes.{is_comma}
-use Rattle.token.specs.Tokens.{Tok, unknown, before, after, pair_or}
+use Rattle.token.specs.Tokens.{unknown, before, after, pair_or}
 use Rattle.token.specs.Reads.{known}
 
 pub comma_step : (bs : List ℕ) (i : ℕ) → i < length bs → (get_or bs i 0 ≡ 44 → ⊥) → take i bs ++ before (drop i bs) ≡ before bs → after (drop i bs) ≡ after bs → (take (i + 1) bs ++ before (drop (i + 1) bs) ≡ before bs) × (after (drop (i + 1) bs) ≡ after bs)

@@ -1,8 +1,8 @@
 -- One byte further in a text.
-use Rattle.std.proofs.Common.{◌≡◌, ℕ, suc, ◌+◌, ◌-◌, ◌<◌, ◌≤◌, Bool, true, false, cond, ◌||◌, List, [], ◌∷◌, ◌++◌, length, get_or, take, drop, sym, refl, ap, ◌∙◌, subst, add-one, arith, length-drop}
-use Rattle.std.proofs.lemmas.List.{drop_more, drop-drop, at_drop_all, length-take-le}
+use Rattle.std.proofs.Common.{◌≡◌, ℕ, suc, ◌+◌, ◌-◌, ◌<◌, ◌≤◌, Bool, true, false, cond, List, [], ◌∷◌, length, get_or, take, drop, sym, refl, ap, ◌∙◌, subst, add-one, arith, length-drop}
+use Rattle.std.proofs.lemmas.List.{drop_more, drop-drop, at_drop_all}
 use Rattle.character.specs.Classes.{is_separator}
-use Rattle.token.specs.Cuts.{Part, parts_of, extend}
+use Rattle.token.specs.Cuts.{parts_of, extend}
 use Rattle.token.specs.Runs.{run_length}
 
 pub skip_step : (bs : List ℕ) (i : ℕ) → i < length bs → true ≡ is_separator (get_or bs i 0) → parts_of i (drop i bs) ≡ parts_of (i + 1) (drop (i + 1) bs)

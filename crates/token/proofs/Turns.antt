@@ -1,11 +1,11 @@
 -- One token more.
-use Rattle.std.proofs.Common.{◌≡◌, ℕ, Bool, true, false, List, [], ◌∷◌, ◌++◌, map, Option, sym, refl, ap, ◌∙◌, append_assoc}
+use Rattle.std.proofs.Common.{◌≡◌, ℕ, true, List, [], ◌∷◌, ◌++◌, map, Option, sym, refl, ap, ◌∙◌, append_assoc}
 use Rattle.std.proofs.lemmas.List.{map-append}
 use Rattle.std.proofs.lemmas.Bool.{false≢true}
 use Rattle.operand.specs.declared.edition.Edition.{Edition}
 use Rattle.token.specs.declared.token.Placed.{Placed}
 use Rattle.token.specs.Cuts.{Part}
-use Rattle.token.specs.Tokens.{Tok, word, letters, block, define, number, pair, unknown, tok_of, Seen, seen, unknown_at, first_unknown}
+use Rattle.token.specs.Tokens.{Tok, word, letters, block, define, number, pair, unknown, tok_of, seen, unknown_at, first_unknown}
 use Rattle.token.specs.Reads.{known, seen_of, part_of}
 
 -- what is left begins with what the pushed value stands for

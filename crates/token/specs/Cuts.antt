@@ -1,5 +1,5 @@
 -- How a text is cut into its parts: the longest runs of bytes that are no separators.
-use Rattle.std.specs.Prelude.{◌≡◌, ℕ, suc, ◌+◌, Bool, true, false, cond, List, [], ◌∷◌, ◌++◌, length}
+use Rattle.std.specs.Prelude.{◌≡◌, ℕ, suc, ◌+◌, true, false, cond, List, [], ◌∷◌, ◌++◌, length}
 use Rattle.character.specs.Classes.{is_separator}
 
 -- a part of a text: its bytes, and the place of the first

@@ -1,5 +1,5 @@
 -- What the tokens that are read stand for, and what the readers answer.
-use Rattle.std.specs.Prelude.{◌≡◌, ℕ, Bool, true, false, List, [], ◌∷◌, ◌++◌, map, Some, None, Ok, Err, vec_items, Option, Result, Vec}
+use Rattle.std.specs.Prelude.{◌≡◌, ℕ, Bool, true, false, List, ◌∷◌, ◌++◌, map, Some, None, Ok, Err, vec_items, Option, Result, Vec}
 use Rattle.std.specs.declared.alloc.Global.{Global}
 use Rattle.operand.specs.declared.edition.Edition.{Edition}
 use Rattle.numeral.specs.Numerals.{natural, written_as}
@@ -11,7 +11,7 @@ use Rattle.token.specs.declared.token.TokenRefusal.{TokenRefusal}
 use Rattle.token.specs.declared.token.TokenRefusal.TheVariants.{Unknown, NoMemory}
 use Rattle.token.specs.Cuts.{Part, parts_of}
 use Rattle.token.specs.Runs.{piece_part}
-use Rattle.token.specs.Tokens.{Tok, word, letters, block, define, number, pair, unknown, before, after, number_or, pair_or, tok_of, Seen, seen, tokens_of, first_unknown}
+use Rattle.token.specs.Tokens.{Tok, word, letters, block, define, number, pair, unknown, number_or, pair_or, tok_of, Seen, seen, tokens_of, first_unknown}
 
 -- the bytes that a token was read from
 abbrev pub bytes_of : Token → List ℕ

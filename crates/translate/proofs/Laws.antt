@@ -7,8 +7,8 @@ use Rattle.token.specs.Tokens.{tokens_of, first_unknown}
 use Rattle.reader.specs.Reading.{Outcome, list, misfit, read_on, unread}
 use Rattle.writing.proofs.Complete.{complete}
 use Rattle.writing.proofs.Sound.{sound}
-use Rattle.translate.specs.Law.{TextWrites, TranslatesWhatIsWritten}
-use Rattle.translate.specs.Translation.{translated, known_or, read_as, translation_of}
+use Rattle.translate.specs.Law.{TranslatesWhatIsWritten}
+use Rattle.translate.specs.Translation.{translated, known_or, read_as}
 
 -- a text that is translated has only known tokens, and was read as a list
 was_read : (u : Option ℕ) (o : Outcome) (is : List Item) (cs : List Constant) → known_or u o ≡ translated is cs → (u ≡ None) × (o ≡ list is cs)

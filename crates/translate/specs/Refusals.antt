@@ -1,5 +1,5 @@
 -- Each refusal of a text: the number of the question that got a no, and the place.
-use Rattle.std.specs.Prelude.{ℕ, Some, None, Option}
+use Rattle.std.specs.Prelude.{Some, None, Option}
 use Rattle.told.specs.declared.Told.{Told}
 use Rattle.token.specs.declared.token.TokenRefusal.{TokenRefusal}
 use Rattle.token.specs.declared.token.TokenRefusal.TheVariants as Token

@@ -1,5 +1,5 @@
 -- What a text is translated to, and what the translator answers and leaves.
-use Rattle.std.specs.Prelude.{◌≡◌, ℕ, List, [], ◌++◌, length, drop, Some, None, Ok, Err, vec_items, Option, Result}
+use Rattle.std.specs.Prelude.{◌≡◌, ℕ, List, [], length, Some, None, Ok, Err, vec_items, Option, Result}
 use Rattle.operand.specs.declared.edition.Edition.{Edition}
 use Rattle.item.specs.declared.item.Item.{Item}
 use Rattle.image.specs.declared.constant.Constant.{Constant}

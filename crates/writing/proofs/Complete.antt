@@ -5,11 +5,9 @@ use Rattle.operand.specs.declared.edition.Edition.{Edition}
 use Rattle.operand.specs.declared.operand.Operand.{Operand}
 use Rattle.item.specs.declared.mnemonic.Mnemonic.{Mnemonic}
 use Rattle.item.specs.declared.item.Item.{Item}
-use Rattle.item.specs.declared.item.Item.TheVariants as Item
 use Rattle.image.specs.declared.constant.Constant.{Constant}
 use Rattle.token.specs.Tokens.{word, Seen}
 use Rattle.follow.specs.declared.state.Asks.{Asks}
-use Rattle.follow.specs.declared.state.Asks.TheVariants as Asks
 use Rattle.reader.specs.Reading.{Read, list, read_on, unread}
 use Rattle.writing.specs.Texts.{at, Alone, Constants, Writes}
 use Rattle.writing.proofs.Ranges.{in_range, all_but_last, one_less}

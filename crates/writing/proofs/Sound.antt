@@ -9,12 +9,10 @@ use Rattle.item.specs.declared.mnemonic.Form.{Form}
 use Rattle.item.specs.declared.mnemonic.Mnemonic.{Mnemonic}
 use Rattle.item.specs.declared.mnemonic.Mnemonic.TheVariants as Word
 use Rattle.item.specs.declared.item.Item.{Item}
-use Rattle.item.specs.declared.item.Item.TheVariants as Item
 use Rattle.image.specs.declared.constant.Constant.{Constant}
 use Rattle.numeral.specs.Numerals.{Written, plain, minus}
 use Rattle.token.specs.Tokens.{Tok, word, letters, block, define, number, pair, unknown, Seen}
 use Rattle.follow.specs.declared.state.Asks.{Asks}
-use Rattle.follow.specs.declared.state.Asks.TheVariants as Asks
 use Rattle.follow.specs.declared.state.Role.{Role}
 use Rattle.follow.specs.declared.state.Role.TheVariants as For
 use Rattle.follow.specs.declared.state.State.{State}

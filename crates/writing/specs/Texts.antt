@@ -1,5 +1,5 @@
 -- What the tokens of a text write, in the words of the text form: which tokens make an item, which a constant, and what a whole text is.
-use Rattle.std.specs.Prelude.{◌≡◌, ℕ, suc, ◌-◌, ◌≤◌, Bool, true, List, [], ◌∷◌, length, ℤ, pos, negsuc, ◌≤ℤ◌, Some, None, Option}
+use Rattle.std.specs.Prelude.{◌≡◌, ℕ, suc, ◌-◌, ◌≤◌, true, List, [], ◌∷◌, length, ℤ, pos, negsuc, ◌≤ℤ◌, Some, None, Option}
 use Rattle.operand.specs.declared.edition.Edition.{Edition}
 use Rattle.operand.specs.declared.kind.Kind.{Kind}
 use Rattle.operand.specs.declared.operand.Operand.{Operand}
@@ -11,7 +11,6 @@ use Rattle.item.specs.declared.mnemonic.Form.{Form}
 use Rattle.item.specs.declared.mnemonic.Mnemonic.{Mnemonic}
 use Rattle.item.specs.declared.mnemonic.Mnemonic.TheVariants as Word
 use Rattle.item.specs.declared.item.Item.{Item}
-use Rattle.item.specs.declared.item.Item.TheVariants as Item
 use Rattle.numeral.specs.Numerals.{Written, plain, value_of}
 use Rattle.image.specs.declared.constant.Constant.{Constant}
 use Rattle.token.specs.Tokens.{Tok, word, letters, block, define, number, pair, Seen}

@@ -1,4 +1,4 @@
-use Rattle.std.proofs.Common.{sym, ◌∙◌, arith, rules}
+use Rattle.std.proofs.Common.{◌∙◌, arith, rules}
 use Rattle.numeral.proofs.Steps.{digit_next, digit_not, digits_end}
 use Rattle.numeral.proofs.all_digits.Goals as goal
 

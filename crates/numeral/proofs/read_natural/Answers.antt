@@ -1,4 +1,4 @@
-use Rattle.std.proofs.Common.{◌≡◌, get_or, ◌∙◌, arith}
+use Rattle.std.proofs.Common.{get_or, ◌∙◌, arith}
 use Rattle.numeral.proofs.Steps.{stops, goes_on, at_end, kept}
 use Rattle.numeral.proofs.read_natural.Goals as goal
 

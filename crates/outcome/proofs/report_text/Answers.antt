@@ -1,9 +1,9 @@
-use Rattle.std.proofs.Common.{◌≡◌, IfOk, sym, ap, ◌∙◌, subst}
+use Rattle.std.proofs.Common.{IfOk, sym, ap, ◌∙◌, subst}
 use Rattle.operand.specs.declared.edition.Edition.TheVariants.{Series90}
-use Rattle.translate.specs.Translation.{translation_of, image_of, due_for, Due}
+use Rattle.translate.specs.Translation.{translation_of, image_of, Due}
 use Rattle.checker.specs.Verdict.{Verdict, verdict_of}
 use Rattle.outcome.specs.declared.Report.{Report}
-use Rattle.outcome.specs.Lines.{ReportsVerdict, verdict_on, text_verdict}
+use Rattle.outcome.specs.Lines.{ReportsVerdict, verdict_on}
 use Rattle.outcome.proofs.Fronts.{written_length, first_words}
 use Rattle.outcome.proofs.report_text.Goals as goal
 

@@ -1,7 +1,6 @@
-use Rattle.std.proofs.Common.{◌≡◌, ◌*◌, ◌/◌, ◌≤◌, length, Some, None, Err, sym, refl, ap, ◌∙◌, arith}
+use Rattle.std.proofs.Common.{◌≡◌, ◌/◌, length, None, Err, ap, ◌∙◌, arith}
 use Rattle.std.proofs.lemmas.Result.{err_from_is_err_and}
-use Rattle.view.specs.Trailers.{item_part, items_in, cells_in}
-use Rattle.checker.specs.Refusals.{told_of}
+use Rattle.view.specs.Trailers.{items_in}
 use Rattle.checker.specs.Verdict.{answered, passed}
 use Rattle.checker.proofs.Deciding.{not_opened, opened_to, item_length, few_items}
 use Rattle.checker.proofs.check.decide.Goals as goal

@@ -1,4 +1,4 @@
-use Rattle.std.proofs.Common.{◌≡◌, Ok, sym, ap, ◌∙◌, w32, SFits, rules}
+use Rattle.std.proofs.Common.{Ok, sym, ap, ◌∙◌, w32, SFits, rules}
 use Rattle.std.proofs.lemmas.Int.{to_z-of_z}
 use Rattle.token.specs.Reads.{meaning}
 use Rattle.follow.specs.Fits.{fitting}

@@ -1,4 +1,4 @@
-use Rattle.std.proofs.Common.{◌≡◌, ◌+◌, ◌%◌, ◌<◌, length, get_or, sym, ap, ◌∙◌, arith}
+use Rattle.std.proofs.Common.{◌≡◌, ◌+◌, ◌%◌, ◌<◌, length, get_or, ap, ◌∙◌, arith}
 use Rattle.decode.specs.Decoded.{item_decoded}
 use Rattle.marks.specs.Cells.{cells_asked, cells_until}
 use Rattle.marks.proofs.Sums.{one_more}

@@ -1,4 +1,3 @@
-use Rattle.std.proofs.Common.{vec_items, rules}
 use Rattle.reader.proofs.Walking.{stopped, went_on, complete, missing}
 use Rattle.reader.proofs.read.read.Goals as goal
 

@@ -1,4 +1,4 @@
-use Rattle.std.proofs.Common.{◌≡◌, ◌+◌, List, set, ap, ◌∙◌}
+use Rattle.std.proofs.Common.{◌+◌, List, set, ap, ◌∙◌}
 use Rattle.store.proofs.Spans.{filled_none, filled_more}
 use Rattle.store.proofs.place.fill.Goals as goal
 

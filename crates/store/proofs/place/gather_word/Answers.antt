@@ -1,5 +1,4 @@
-use Rattle.std.proofs.Common.{◌≡◌, ℕ, ◌+◌, ◌-◌, ◌*◌, ◌^◌, ◌<◌, false, cond, get_or, sym, ap, ◌∙◌, arith}
-use Rattle.store.specs.Places.{gathered}
+use Rattle.std.proofs.Common.{ℕ, ◌+◌, ◌-◌, ◌*◌, false, cond, get_or, ap, ◌∙◌, arith}
 use Rattle.store.proofs.Spans.{gathered_none, gathered_room, gathered_more}
 use Rattle.store.proofs.place.gather_word.Goals as goal
 

@@ -1,4 +1,4 @@
-use Rattle.std.proofs.Common.{◌≡◌, ℕ, ◌+◌, ◌/◌, ◌%◌, Bool, eqb, List, set, ap, ◌∙◌}
+use Rattle.std.proofs.Common.{ℕ, ◌+◌, ◌/◌, ◌%◌, Bool, eqb, List, set, ap, ◌∙◌}
 use Rattle.store.specs.Places.{spread}
 use Rattle.store.proofs.Spans.{spread_none, spread_more, shifted_none, shifted_more}
 use Rattle.store.proofs.place.spread_word.Goals as goal
