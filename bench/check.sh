@@ -5,9 +5,9 @@
 set -euo pipefail
 
 cd "$(dirname "$0")/.."
-program=target/bin/list_trials
+program=crates/list_trials/out/list_trials
 if [ ! -x "$program" ]; then
-    rt check list_trials
+    (cd crates/list_trials && rt run </dev/null) >/dev/null
 fi
 echo "program: $PWD/$program"
 

@@ -4,9 +4,9 @@
 set -euo pipefail
 
 cd "$(dirname "$0")/.."
-program=target/bin/console
+program=crates/console/out/console
 if [ ! -x "$program" ]; then
-    rt check console
+    (cd crates/console && rt run </dev/null) >/dev/null
 fi
 echo "program: $PWD/$program"
 
