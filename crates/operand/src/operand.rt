@@ -1,5 +1,5 @@
 // Operands, their codes, and which of them a list may write.
-ghost use Rattle.std.specs.Prelude.{◌≡◌, ◌+◌, ◌*◌, ◌<◌, true, Some as Some-of};
+ghost use Rattle.std.specs.Prelude.{◌≡◌, ◌+◌, ◌*◌, ◌<◌, true};
 ghost use Rattle.operand.specs.Codes.{code_of, operand_at, decoded, in_range, may_write, Decodes};
 ghost use Rattle.operand.specs.Kinds.{number_of};
 ghost use Rattle.operand.specs.Ranges.{system_ranges, writable_ranges};
@@ -125,7 +125,7 @@ impl Operand {
 
     pub fn code(self) -> u16
         ensures value { result ≡ code_of self }
-        ensures undone { (e : AnyEdition) → in_range e self ≡ true → decoded e result ≡ Some-of self }
+        ensures undone { (e : AnyEdition) → in_range e self ≡ true → decoded e result ≡ Some self }
     {
         code_at(self.kind, self.place())
     }
