@@ -48,11 +48,6 @@ def own_names():
     return declared - foreign
 
 
-def clause_parts(line, inside):
-    """The parts of a .rt line that are clauses or ghost imports, as (start, end), and whether a clause goes on."""
-    return line.strip().startswith(("ghost ", "pub ghost ", "requires", "ensures")) or inside
-
-
 def turn(s, names):
     return TOKEN.sub(lambda m: names.get(m.group(0), m.group(0)), s)
 
