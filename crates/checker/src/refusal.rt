@@ -3,6 +3,7 @@ ghost use Rattle.std.specs.Prelude.{◌≡◌};
 ghost use Rattle.checker.specs.Refusals.{of_view, told_of};
 
 use told::Told;
+use told::question::Question;
 use view::OpenRefusal;
 
 #[derive(Clone, Copy)]
@@ -26,30 +27,24 @@ pub enum CheckRefusal {
     NoCells,
 }
 
-fn no_to(question: u16, place: usize) -> Told
-    ensures { result ≡ record { question = question; place = place } }
-{
-    Told { question, place }
-}
-
 impl CheckRefusal {
     // The question that got a no, and its place.
     pub fn told(self) -> Told
         ensures { result ≡ told_of self }
     {
         match self {
-            CheckRefusal::NoTrailer => no_to(1, 0),
-            CheckRefusal::NoEdition => no_to(2, 0),
-            CheckRefusal::NoFit => no_to(3, 0),
-            CheckRefusal::NoConstant(place) => no_to(4, place),
-            CheckRefusal::NoItem(place) => no_to(5, place),
-            CheckRefusal::NoList(place) => no_to(6, place),
-            CheckRefusal::TooDeep(place) => no_to(7, place),
-            CheckRefusal::NoType(place) => no_to(8, place),
-            CheckRefusal::NoTarget(place) => no_to(9, place),
-            CheckRefusal::NoPin(place) => no_to(10, place),
-            CheckRefusal::NoMark(place) => no_to(11, place),
-            CheckRefusal::NoCells => no_to(12, 0),
+            CheckRefusal::NoTrailer => Question::Trailer.at(0),
+            CheckRefusal::NoEdition => Question::Edition.at(0),
+            CheckRefusal::NoFit => Question::Sizes.at(0),
+            CheckRefusal::NoConstant(place) => Question::Constants.at(place),
+            CheckRefusal::NoItem(place) => Question::Items.at(place),
+            CheckRefusal::NoList(place) => Question::Grammar.at(place),
+            CheckRefusal::TooDeep(place) => Question::Depth.at(place),
+            CheckRefusal::NoType(place) => Question::Types.at(place),
+            CheckRefusal::NoTarget(place) => Question::Targets.at(place),
+            CheckRefusal::NoPin(place) => Question::Pins.at(place),
+            CheckRefusal::NoMark(place) => Question::Marks.at(place),
+            CheckRefusal::NoCells => Question::Cells.at(0),
         }
     }
 }

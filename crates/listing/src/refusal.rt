@@ -4,6 +4,7 @@ ghost use Rattle.listing.specs.Refusals.{of_check, told_of};
 
 use checker::refusal::CheckRefusal;
 use told::Told;
+use told::question::Question;
 
 #[derive(Clone, Copy)]
 pub enum ListRefusal {
@@ -20,10 +21,7 @@ impl ListRefusal {
     {
         match self {
             ListRefusal::NotListed(refusal) => refusal.told(),
-            ListRefusal::TooLong => Told {
-                question: 22,
-                place: 0,
-            },
+            ListRefusal::TooLong => Question::Room.at(0),
         }
     }
 }

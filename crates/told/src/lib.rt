@@ -6,8 +6,11 @@ ghost use Rattle.told.specs.Lines.{refused_line};
 
 use std::fmt;
 
+pub mod question;
+
 #[derive(Clone, Copy, Debug, PartialEq)]
 pub struct Told {
+    // a number, as it is printed and handed to the firmware
     pub question: u16,
     pub place: usize,
 }

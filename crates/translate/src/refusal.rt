@@ -6,6 +6,7 @@ use image::write::WriteRefusal;
 use reader::read::ReadRefusal;
 use token::token::TokenRefusal;
 use told::Told;
+use told::question::Question;
 
 #[derive(Clone, Copy, Debug, PartialEq)]
 pub enum Refusal {
@@ -26,22 +27,10 @@ impl Refusal {
         ensures { result ≡ told_of self }
     {
         match self {
-            Refusal::Unknown(place) => Some(Told {
-                question: 19,
-                place,
-            }),
-            Refusal::Misplaced(place) => Some(Told {
-                question: 20,
-                place,
-            }),
-            Refusal::TooMany => Some(Told {
-                question: 21,
-                place: 0,
-            }),
-            Refusal::TooLong => Some(Told {
-                question: 22,
-                place: 0,
-            }),
+            Refusal::Unknown(place) => Some(Question::Tokens.at(place)),
+            Refusal::Misplaced(place) => Some(Question::Followers.at(place)),
+            Refusal::TooMany => Some(Question::Counts.at(0)),
+            Refusal::TooLong => Some(Question::Room.at(0)),
             Refusal::NoMemory => None,
         }
     }
