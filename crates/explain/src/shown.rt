@@ -1,49 +1,58 @@
 // What stands at the place of a refusal, written into a lent buffer.
 ghost use Rattle.explain.specs.Shown.{explanation, item_shown, place_shown, token_shown};
-ghost use Rattle.lay.specs.Lays.{Lays};
+ghost use Rattle.lay.specs.Lays.{Lays, Puts};
 
 use crate::words::question_words;
 use decode::decode_item;
-use lay::{put_byte, put_bytes, put_text};
+use lay::Pen;
 use operand::edition::Edition;
-use script::put_item;
+use script::Script;
 use token::cut::run_end;
 use told::Told;
 
 // No more of a token is shown.
 const MOST_SHOWN: usize = 60;
 
-fn put_token(out: &mut [u8], at: usize, text: &[u8], place: usize) -> usize
-    ensures { Lays out.old at (token_shown text.now place) out.new result }
+fn put_token(pen: &mut Pen, text: &[u8], place: usize)
+    ensures { Puts pen.old (token_shown text.now place) pen.new }
 {
     if place >= text.len() {
-        return put_text(out, at, "the end of the text");
+        return pen.put_text("the end of the text");
     }
     let long = run_end(text, place) - place;
     let end = place + long.min(MOST_SHOWN);
-    put_bytes(out, at, &text[place..end])
+    pen.put_bytes(&text[place..end])
 }
 
-fn put_shown(out: &mut [u8], at: usize, items: &[u16], place: usize) -> usize
-    ensures { Lays out.old at (item_shown items.now place) out.new result }
+fn put_shown(pen: &mut Pen, items: &[u16], place: usize)
+    ensures { Puts pen.old (item_shown items.now place) pen.new }
 {
     if place >= items.len() / 2 {
-        return put_text(out, at, "the end of the list");
+        return pen.put_text("the end of the list");
     }
     match decode_item(Edition::Series90, items[2 * place], items[2 * place + 1]) {
-        Some(item) => put_item(out, at, item),
-        None => put_text(out, at, "an unknown item"),
+        Some(item) => item.put_on(pen),
+        None => pen.put_text("an unknown item"),
     }
 }
 
-fn put_place(out: &mut [u8], at: usize, told: Told, text: &[u8], items: &[u16]) -> usize
-    ensures { Lays out.old at (place_shown told text.now items.now) out.new result }
+fn put_place(pen: &mut Pen, told: Told, text: &[u8], items: &[u16])
+    ensures { Puts pen.old (place_shown told text.now items.now) pen.new }
 {
     match told.question {
-        5..=11 => put_shown(out, at, items, told.place),
-        19..=20 => put_token(out, at, text, told.place),
-        _ => put_text(out, at, ""),
+        5..=11 => put_shown(pen, items, told.place),
+        19..=20 => put_token(pen, text, told.place),
+        _ => pen.put_text(""),
     }
+}
+
+fn put_explanation(pen: &mut Pen, told: Told, text: &[u8], items: &[u16])
+    ensures { Puts pen.old (explanation told text.now items.now) pen.new }
+{
+    pen.put_text(question_words(told.question));
+    pen.put_byte(b'\n');
+    put_place(pen, told, text, items);
+    pen.put_byte(b'\n');
 }
 
 // Writes two lines into the buffer, and tells how long they are: the question in words, and what stands at the
@@ -51,8 +60,7 @@ fn put_place(out: &mut [u8], at: usize, told: Told, text: &[u8], items: &[u16]) 
 pub fn explain(told: Told, text: &[u8], items: &[u16], out: &mut [u8]) -> usize
     ensures { Lays out.old 0 (explanation told text.now items.now) out.new result }
 {
-    let line = put_text(out, 0, question_words(told.question));
-    let place = put_byte(out, line, b'\n');
-    let end = put_place(out, place, told, text, items);
-    put_byte(out, end, b'\n')
+    let mut pen = Pen::new(out);
+    put_explanation(&mut pen, told, text, items);
+    pen.at
 }

@@ -1,74 +1,93 @@
-// Bytes laid into a lent buffer. What finds no room is counted and not written, so that the same walk
+// A pen over a lent buffer. What finds no room is counted and not written, so that the same walk
 // over an empty buffer tells how long a text is.
 #![tactic(auto)]
 
 ghost use Rattle.std.specs.Prelude.{◌≡◌, [], ◌∷◌, decimal, slice_set};
 ghost use Rattle.lay.specs.Digits.{two_digits};
-ghost use Rattle.lay.specs.Lays.{Lays};
+ghost use Rattle.lay.specs.Lays.{Lays, Puts};
 ghost use Rattle.std.specs.Fmt.{signed_decimal};
 
-// Past the end nothing is written.
-fn store(out: &mut [u8], at: usize, byte: u8)
-    ensures { out.new ≡ slice_set out.old at byte }
-{
-    if at < out.len() {
-        out[at] = byte;
+#[derive(Drop)]
+pub struct Pen<'a> {
+    pub out: &'a mut [u8],
+    // where the next byte goes; past the end of the buffer it counts on
+    pub at: usize,
+}
+
+impl<'a> Pen<'a> {
+    pub fn new(out: &'a mut [u8]) -> Pen<'a>
+        ensures buffer { result.out.now ≡ out.old }
+        ensures lender { result.out.ghost_name ≡ out.entry.ghost_name }
+        ensures place { result.at ≡ 0 }
+    {
+        Pen { out, at: 0 }
     }
 }
 
-pub fn put_byte(out: &mut [u8], at: usize, byte: u8) -> usize
-    ensures { Lays out.old at (byte ∷ []) out.new result }
-{
-    store(out, at, byte);
-    at.saturating_add(1)
-}
-
-pub fn put_bytes(out: &mut [u8], at: usize, bytes: &[u8]) -> usize
-    ensures { Lays out.old at bytes.now out.new result }
-{
-    let next = at.saturating_add(bytes.len());
-    if next <= out.len() {
-        out[at..next].copy_from_slice(bytes);
+impl Pen<'_> {
+    // Past the end nothing is written.
+    fn store(&mut self, byte: u8)
+        ensures buffer { self.new.out.now ≡ slice_set self.old.out.now self.old.at byte }
+        ensures lender { self.new.out.ghost_name ≡ self.old.out.ghost_name }
+        ensures place { self.new.at ≡ self.old.at }
+    {
+        if self.at < self.out.len() {
+            self.out[self.at] = byte;
+        }
     }
-    next
-}
 
-pub fn put_text(out: &mut [u8], at: usize, text: &str) -> usize
-    ensures { Lays out.old at text.now out.new result }
-{
-    put_bytes(out, at, text.as_bytes())
-}
-
-pub fn put_natural(out: &mut [u8], at: usize, number: u32) -> usize
-    ensures { Lays out.old at (decimal number) out.new result }
-{
-    if number < 10 {
-        put_byte(out, at, b'0' + number as u8)
-    } else {
-        let next = put_natural(out, at, number / 10);
-        put_byte(out, next, b'0' + (number % 10) as u8)
+    pub fn put_byte(&mut self, byte: u8)
+        ensures { Puts self.old (byte ∷ []) self.new }
+    {
+        self.store(byte);
+        self.at = self.at.saturating_add(1);
     }
-}
 
-pub fn put_signed(out: &mut [u8], at: usize, value: i32) -> usize
-    ensures { Lays out.old at (signed_decimal value) out.new result }
-{
-    if value < 0 {
-        let next = put_byte(out, at, b'-');
-        put_natural(out, next, value.unsigned_abs())
-    } else {
-        put_natural(out, at, value as u32)
+    pub fn put_bytes(&mut self, bytes: &[u8])
+        ensures { Puts self.old bytes.now self.new }
+    {
+        let next = self.at.saturating_add(bytes.len());
+        if next <= self.out.len() {
+            self.out[self.at..next].copy_from_slice(bytes);
+        }
+        self.at = next;
     }
-}
 
-// A number with two digits at least.
-pub fn put_two(out: &mut [u8], at: usize, number: u8) -> usize
-    ensures { Lays out.old at (two_digits number) out.new result }
-{
-    if number < 10 {
-        let next = put_byte(out, at, b'0');
-        put_byte(out, next, b'0' + number)
-    } else {
-        put_natural(out, at, number as u32)
+    pub fn put_text(&mut self, text: &str)
+        ensures { Puts self.old text.now self.new }
+    {
+        self.put_bytes(text.as_bytes());
+    }
+
+    pub fn put_natural(&mut self, number: u32)
+        ensures { Puts self.old (decimal number) self.new }
+    {
+        if number >= 10 {
+            self.put_natural(number / 10);
+        }
+        self.put_byte(b'0' + (number % 10) as u8);
+    }
+
+    pub fn put_signed(&mut self, value: i32)
+        ensures { Puts self.old (signed_decimal value) self.new }
+    {
+        if value < 0 {
+            self.put_byte(b'-');
+            self.put_natural(value.unsigned_abs())
+        } else {
+            self.put_natural(value as u32)
+        }
+    }
+
+    // A number with two digits at least.
+    pub fn put_two(&mut self, number: u8)
+        ensures { Puts self.old (two_digits number) self.new }
+    {
+        if number < 10 {
+            self.put_byte(b'0');
+            self.put_byte(b'0' + number)
+        } else {
+            self.put_natural(number as u32)
+        }
     }
 }

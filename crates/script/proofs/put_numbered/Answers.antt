@@ -1,5 +1,5 @@
-use Rattle.lay.proofs.Joins.{behind}
+use Rattle.lay.proofs.Joins.{then}
 use Rattle.script.proofs.put_numbered.Goals as goal
 
 pub returns : goal.returns
-returns c = behind c.put_mnemonic-blank.ensures (behind c.put_byte-digits.ensures c.put_natural.ensures)
+returns c = then c.put_mnemonic.ensures (then c.put_byte.ensures c.put_natural.ensures)

@@ -1,5 +1,5 @@
-use Rattle.lay.proofs.Joins.{behind, read_as}
+use Rattle.lay.proofs.Joins.{then, puts_as}
 use Rattle.script.proofs.put_operand.Goals as goal
 
 pub returns : goal.returns
-returns c = behind (read_as c.letters.ensures c.put_text-blank.ensures) (behind c.put_byte-pair.ensures c.put_pair.ensures)
+returns c = then (puts_as c.letters.ensures c.put_text.ensures) (then c.put_byte.ensures c.put_pair.ensures)

@@ -1,5 +1,5 @@
-use Rattle.lay.proofs.Joins.{behind}
+use Rattle.lay.proofs.Joins.{then}
 use Rattle.script.proofs.put_pair.Goals as goal
 
 pub returns : goal.returns
-returns c = behind c.put_two-comma.ensures (behind c.put_byte-channel.ensures c.put_two.ensures)
+returns c = then c.put_two.ensures (then c.put_byte.ensures c.put_two-2.ensures)

@@ -1,9 +1,0 @@
-use Rattle.std.proofs.Common.{sym, w32, SFits}
-use Rattle.std.proofs.lemmas.Int.{to_z-of_z}
-use Rattle.lay.proofs.Joins.{read_as, behind, minus}
-use Rattle.lay.proofs.put_signed.Goals as goal
-
-pub returns-then-value-lt0 : goal.returns-then-value-lt0
-returns-then-value-lt0 c =
-    let f : SFits w32 c.args.value = c.ranges.value in
-    read_as (sym (minus c.args.value _ (simp to_z-of_z at c.unsigned_abs.ensures.value) (simp to_z-of_z at c.if-value-lt0.true))) (behind c.put_byte-next.ensures c.put_natural.ensures)
