@@ -4,7 +4,7 @@ ghost use Rattle.lay.specs.Lays.{Lays, Puts};
 
 use crate::words::question_words;
 use decode::decode_item;
-use lay::Pen;
+use lay::pen::Pen;
 use operand::edition::Edition;
 use script::Script;
 use token::cut::run_end;

@@ -7,7 +7,7 @@ use borrow.Rule.Slice.PartMut.{put_mid}
 use Rattle.std.proofs.lemmas.List.{take_more_set, drop-set-lt, drop-drop, set_past}
 use Rattle.std.proofs.lemmas.Slice.{put_mid-paste, take-put_mid, drop-put_mid}
 use Rattle.std.proofs.lemmas.List.Edits.{length-paste}
-use Rattle.lay.specs.declared.Pen.{Pen}
+use Rattle.lay.specs.declared.pen.Pen.{Pen}
 use Rattle.lay.specs.Lays.{Lays, Puts}
 
 one : (old : List ℕ) (i b next : ℕ) → next ≡ min (i + 1) (2 ^ 64 - 1) → i < length old → length old < 2 ^ 64 → Lays old i (b ∷ []) (set old i b) next
@@ -20,7 +20,7 @@ one old i b next e l h = record {
 }
 
 -- no room, and nothing written
-pub past : (old : List ℕ) (i next : ℕ) (bs : List ℕ) → next ≡ min (i + length bs) (2 ^ 64 - 1) → (i + length bs ≤ length old → ⊥) → length old < 2 ^ 64 → Lays old i bs old next
+past : (old : List ℕ) (i next : ℕ) (bs : List ℕ) → next ≡ min (i + length bs) (2 ^ 64 - 1) → (i + length bs ≤ length old → ⊥) → length old < 2 ^ 64 → Lays old i bs old next
 past old i next bs e l h = record { counts = e; front = λ f. absurd (l f); rest = λ f. absurd (l f); same_length = refl; in_memory = h }
 
 -- one byte, room or not
@@ -123,6 +123,6 @@ puts_as {a} {b} e p = subst (λ (zs : List ℕ). Puts a zs b) e p
 pub from_pen : {a a' b : Pen} {xs : List ℕ} → a ≡ a' → Puts a xs b → Puts a' xs b
 from_pen {b = b} {xs = xs} e p = subst (λ (o : Pen). Puts o xs b) e p
 
--- a pen that goes on at another place
-pub moved : {a b o : Pen} (bs : List ℕ) (next : ℕ) → o ≡ b → Lays a.out.now a.at bs b.out.now next → b.out.ghost_name ≡ a.out.ghost_name → Puts a bs (record { out = o.out; at = next })
-moved {a} {b} {o} bs next e p l = subst (λ (q : Pen). Puts a bs (record { out = q.out; at = next })) (sym e) (record { lays = p; lender = l })
+-- nothing put yet
+pub nothing : (a : Pen) → Puts a [] a
+nothing a = record { lays = none a.out.now a.at a.counted a.in_memory; lender = refl }

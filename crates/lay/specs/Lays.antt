@@ -1,6 +1,6 @@
 -- Bytes laid into a buffer.
 use Rattle.std.specs.Prelude.{◌≡◌, ℕ, ◌+◌, ◌-◌, ◌^◌, ◌<◌, ◌≤◌, min, List, ◌++◌, length, take, drop}
-use Rattle.lay.specs.declared.Pen.{Pen}
+use Rattle.lay.specs.declared.pen.Pen.{Pen}
 
 -- The bytes bs were laid into the buffer old from place `at` on, and it is new now: all of them where there is room for them.
 -- Room or not, `next` is the place behind them (as far as 64 bits count).

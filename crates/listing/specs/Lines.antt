@@ -11,13 +11,15 @@ use Rattle.constants.specs.Lawful.{constant_at}
 use Rattle.checker.specs.Verdict.{Parts}
 
 -- each line is ended by 0Ah; what is not known has none
+abbrev pub line_of : {A : Type 0} → (A → List ℕ) → Option A → List ℕ
+line_of text None = []
+line_of text (Some x) = text x ++ (10 ∷ [])
+
 abbrev pub item_line : Option Item → List ℕ
-item_line None = []
-item_line (Some i) = item_text i ++ (10 ∷ [])
+item_line = line_of item_text
 
 abbrev pub constant_line : Option Constant → List ℕ
-constant_line None = []
-constant_line (Some c) = constant_text c ++ (10 ∷ [])
+constant_line = line_of constant_text
 
 unfoldable pub item_lines : List (Option Item) → List ℕ
 item_lines [] = []

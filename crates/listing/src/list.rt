@@ -1,8 +1,8 @@
 // Listing an image into a lent buffer.
 ghost use Rattle.std.specs.Prelude.{◌≡◌, ◌+◌, ◌/◌, ◌<◌, length};
 ghost use Rattle.checker.specs.Verdict.{seen};
-ghost use Rattle.lay.specs.Lays.{Lays};
-ghost use Rattle.listing.specs.Lines.{item_line, constant_line, item_lines, constant_lines, listing_of};
+ghost use Rattle.lay.specs.Lays.{Lays, Puts};
+ghost use Rattle.listing.specs.Lines.{line_of, item_line, constant_line, item_lines, constant_lines, listing_of};
 ghost use Rattle.listing.specs.Listed.{answered, due_for, fitted, left_by, text_of, Opened};
 ghost use Rattle.constants.specs.Decoded.{constants_of};
 ghost use Rattle.constants.specs.Lawful.{constant_at};
@@ -14,57 +14,36 @@ use checker::check::judge_known;
 use checker::refusal::CheckRefusal;
 use constants::decode::decode_constant;
 use decode::decode_item;
-use image::constant::Constant;
-use item::item::Item;
-use lay::put_byte;
+use lay::pen::Pen;
 use operand::edition::Edition;
-use script::{put_constant, put_item};
+use script::Script;
 use view::{Image, view_image};
 
-fn put_item_line(out: &mut [u8], at: usize, item: Option<Item>) -> usize
-    ensures { Lays out.old at (item_line item) out.new result }
+fn put_line<T: Script>(pen: &mut Pen, entry: Option<T>)
+    ensures { Puts pen.old (line_of T.Script.text entry) pen.new }
 {
-    match item {
-        Some(item) => {
-            let end = put_item(out, at, item);
-            put_byte(out, end, b'\n')
+    match entry {
+        Some(entry) => {
+            entry.put_on(pen);
+            pen.put_byte(b'\n')
         }
-        None => at,
+        None => {}
     }
 }
 
-fn put_constant_line(out: &mut [u8], at: usize, constant: Option<Constant>) -> usize
-    ensures { Lays out.old at (constant_line constant) out.new result }
-{
-    match constant {
-        Some(constant) => {
-            let end = put_constant(out, at, constant);
-            put_byte(out, end, b'\n')
-        }
-        None => at,
-    }
-}
-
-fn put_item_at(out: &mut [u8], at: usize, edition: Edition, items: &[u16], place: usize) -> usize
+fn put_item_at(pen: &mut Pen, edition: Edition, items: &[u16], place: usize)
     requires { place < length items.now / 2 }
-    ensures { Lays out.old at (item_line (item_at edition items.now place)) out.new result }
+    ensures { Puts pen.old (item_line (item_at edition items.now place)) pen.new }
 {
-    put_item_line(
-        out,
-        at,
+    put_line(
+        pen,
         decode_item(edition, items[2 * place], items[2 * place + 1]),
-    )
+    );
 }
 
-fn put_constant_at(
-    out: &mut [u8],
-    at: usize,
-    edition: Edition,
-    constants: &[u16],
-    place: usize,
-) -> usize
+fn put_constant_at(pen: &mut Pen, edition: Edition, constants: &[u16], place: usize)
     requires { place < length constants.now / 3 }
-    ensures { Lays out.old at (constant_line (constant_at edition constants.now place)) out.new result }
+    ensures { Puts pen.old (constant_line (constant_at edition constants.now place)) pen.new }
 {
     let first = 3 * place;
     let constant = decode_constant(
@@ -73,34 +52,39 @@ fn put_constant_at(
         constants[first + 1],
         constants[first + 2],
     );
-    put_constant_line(out, at, constant)
+    put_line(pen, constant);
 }
 
-fn put_items(out: &mut [u8], edition: Edition, items: &[u16]) -> usize
-    ensures { Lays out.old 0 (item_lines (items_of edition items.now)) out.new result }
+fn put_items(pen: &mut Pen, edition: Edition, items: &[u16])
+    ensures { Puts pen.old (item_lines (items_of edition items.now)) pen.new }
 {
-    let mut at = 0;
     for place in 0..items.len() / 2 {
-        at = put_item_at(out, at, edition, items, place);
+        put_item_at(pen, edition, items, place);
     }
-    at
 }
 
-fn put_constants(out: &mut [u8], from: usize, edition: Edition, constants: &[u16]) -> usize
-    ensures { Lays out.old from (constant_lines (constants_of edition constants.now)) out.new result }
+fn put_constants(pen: &mut Pen, edition: Edition, constants: &[u16])
+    ensures { Puts pen.old (constant_lines (constants_of edition constants.now)) pen.new }
 {
-    let mut at = from;
     for place in 0..constants.len() / 3 {
-        at = put_constant_at(out, at, edition, constants, place);
+        put_constant_at(pen, edition, constants, place);
     }
-    at
 }
 
-fn put_listing(out: &mut [u8], image: Image) -> usize
+fn put_listing(pen: &mut Pen, image: Image)
+    ensures { Puts pen.old (listing_of (seen image.entry)) pen.new }
+{
+    put_items(pen, image.edition, image.items);
+    put_constants(pen, image.edition, image.constants);
+}
+
+// Writes the listing first into the buffer, as far as it finds room, and tells how long it is.
+fn write_listing(out: &mut [u8], image: Image) -> usize
     ensures { Lays out.old 0 (listing_of (seen image.entry)) out.new result }
 {
-    let next = put_items(out, image.edition, image.items);
-    put_constants(out, next, image.edition, image.constants)
+    let mut pen = Pen::new(out);
+    put_listing(&mut pen, image);
+    pen.at
 }
 
 // Writes a listing that fits first into the buffer; one that does not is not written.
@@ -108,12 +92,11 @@ fn put_fitting(out: &mut [u8], image: Image) -> Result<usize, ListRefusal>
     ensures answer { answered result ≡ fitted (listing_of (seen image.entry)) (length out.old) }
     ensures left { out.new ≡ left_by result (listing_of (seen image.entry)) out.old }
 {
-    let mut nothing = [0; 0];
-    let needed = put_listing(&mut nothing, image);
+    let needed = write_listing(&mut [], image);
     if needed > out.len() {
         return Err(ListRefusal::TooLong);
     }
-    Ok(put_listing(out, image))
+    Ok(write_listing(out, image))
 }
 
 // The parts of an image that has a listing.

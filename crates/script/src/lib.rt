@@ -11,7 +11,7 @@ use constants::decode::signed_word;
 use image::constant::Constant;
 use item::item::Item;
 use item::mnemonic::Mnemonic;
-use lay::Pen;
+use lay::pen::Pen;
 use operand::operand::Operand;
 
 // What has a text.

@@ -6,5 +6,5 @@ use Rattle.listing.proofs.list.put_fitting.Goals as goal
 
 pub returns : goal.returns
 returns c =
-    let f = fits (listing_of (seen c.args.image)) c.args.out.now _ _ c.put_listing.ensures (omega (arith, c.put_listing-needed.ensures.counts)) in
+    let f = fits (listing_of (seen c.args.image)) c.args.out.now _ _ c.write_listing.ensures (omega (arith, c.write_listing-needed.ensures.counts)) in
     record { answer = f.answer; left = f.left }

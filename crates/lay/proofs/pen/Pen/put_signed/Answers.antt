@@ -1,7 +1,7 @@
 use Rattle.std.proofs.Common.{sym, w32, SFits}
 use Rattle.std.proofs.lemmas.Int.{to_z-of_z}
 use Rattle.lay.proofs.Joins.{then, puts_as, minus}
-use Rattle.lay.proofs.Pen.put_signed.Goals as goal
+use Rattle.lay.proofs.pen.Pen.put_signed.Goals as goal
 
 pub returns-then-value-lt0 : goal.returns-then-value-lt0
 returns-then-value-lt0 c =

@@ -1,8 +1,8 @@
 use Rattle.std.proofs.Common.{◌≡◌, ◌+◌, ◌%◌, [], ◌∷◌, sym, ap, ◌∙◌, arith}
 use Rattle.std.proofs.lemmas.Fmt.{decimal_digit, decimal_step}
 use Rattle.lay.proofs.Joins.{then, puts_as, from_pen}
-use Rattle.lay.proofs.Pen.+put_natural.Goals.{then-number-ge10, else-number-ge10}
-use Rattle.lay.proofs.Pen.+put_natural.Goals as goal
+use Rattle.lay.proofs.pen.Pen.+put_natural.Goals.{then-number-ge10, else-number-ge10}
+use Rattle.lay.proofs.pen.Pen.+put_natural.Goals as goal
 
 pub returns : goal.returns
 returns t c =
