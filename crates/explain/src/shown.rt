@@ -39,6 +39,7 @@ fn put_shown(pen: &mut Pen, items: &[u16], place: usize)
 fn put_place(pen: &mut Pen, told: Told, text: &[u8], items: &[u16])
     ensures { Puts pen.old (place_shown told text.now items.now) pen.new }
 {
+    // By number: tried by the typed question, which names nine cases and whose proof did not close.
     match told.question {
         5..=11 => put_shown(pen, items, told.place),
         19..=20 => put_token(pen, text, told.place),
