@@ -40,6 +40,7 @@ pub fn spread_word(xs: &mut [bool], first: u16, word: u16)
 }
 
 // The word whose bits stand in sixteen places, the lowest first.
+#[tactic(auto, using(crate::proofs::Spans::gathered_none, crate::proofs::Spans::gathered_room, crate::proofs::Spans::gathered_more, crate::proofs::Spans::byte_at_most))]
 pub fn gather_word(xs: &[bool], first: u16) -> u16
     ensures { result ≡ gathered xs.now first 16 }
 {
