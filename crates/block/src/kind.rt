@@ -1,20 +1,28 @@
 // A block kind, by its meaning.
 ghost use Rattle.std.specs.Prelude.{◌≡◌, ℕ, ◌≤◌, true, List, ℤ};
+ghost use Rattle.catalogue.specs.Blocks.{cells_of};
+ghost use Rattle.catalogue.specs.declared.Block.{Block};
 ghost use Rattle.block.specs.Meaning.{Meaning, outputs_fit};
 
+use crate::call::Call;
 use crate::worked::Worked;
+use catalogue::Block;
 
 pub trait BlockKind {
     ghost meaning: { Meaning };
 
-    // How many history cells a call of the kind has.
-    fn cells(&self) -> u16
-        ensures { result ≡ meaning.count };
+    ghost KIND: { Block };
 
-    // Works the block once. Any inputs and any cells will do; `ms` is the time of this scan.
-    fn work(&self, inputs: &[i32; 5], cells: &mut [i32; 3], ms: u32) -> Worked
-        ensures told { result ≡ (meaning.gives inputs.now cells.old ms).worked }
-        ensures kept { cells.new ≡ (meaning.gives inputs.now cells.old ms).cells };
+    // The kind's entry in the catalogue.
+    const KIND: Block;
+
+    // Works the block once. Any inputs and any cells will do.
+    fn work(&self, call: &Call, cells: &mut [i32; 3]) -> Worked
+        ensures told { result ≡ (meaning.gives call.now.inputs cells.old call.now.ms).worked }
+        ensures kept { cells.new ≡ (meaning.gives call.now.inputs cells.old call.now.ms).cells };
+
+    // How many history cells a call of the kind has.
+    ghost counted: { meaning.count ≡ cells_of KIND };
 
     // A window has room for three cells.
     ghost small: { meaning.count ≤ 3 };

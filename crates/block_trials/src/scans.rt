@@ -1,5 +1,6 @@
 // Blocks worked scan by scan, each in a window of a history that holds 9 everywhere else.
 use crate::rows::numbers;
+use block::call::Call;
 use blocks::dispatch::work_block;
 use catalogue::Block;
 use number::operations::at_least_zero;
@@ -185,76 +186,55 @@ SPBM 0 0 0
 1 -1 99 0 0 0 0 0 0 1 0 0 0";
 
 fn kind_named(name: &str) -> Option<Block> {
-    for number in 1..9u16 {
-        if let Some(kind) = Block::numbered(Edition::Series90, number) {
-            if kind.name() == name {
-                return Some(kind);
-            }
-        }
-    }
-    None
+    (1..9)
+        .filter_map(|number| Block::numbered(Edition::Series90, number))
+        .find(|kind| kind.name() == name)
 }
 
-// Puts the cells into the window, as many as the kind has.
-fn put_cells(history: &mut [i32; 1024], count: u16, cells: &[i32; 13]) {
-    for k in 0..3usize {
-        if k < count as usize {
-            history[700 + k] = cells[k];
-        }
+// The place of the window's first cell.
+const FIRST: usize = 700;
+
+// What the history is, once the window has the first cells of these, as many as the kind has.
+fn history_with(kind: Block, cells: &[i32]) -> [i32; 1024] {
+    let mut history = [9; 1024];
+    let window = history.iter_mut().skip(FIRST);
+    for (kept, cell) in window.zip(cells).take(usize::from(kind.cells())) {
+        *kept = *cell;
     }
+    history
 }
 
-fn cells_as_due(history: &[i32; 1024], count: u16, values: &[i32; 13]) -> bool {
-    for place in 0..1024usize {
-        let due = if place >= 700 && place < 700 + count as usize && place < 703 {
-            values[place - 690]
-        } else {
-            9
-        };
-        if history[place] != due {
-            return false;
-        }
-    }
-    true
+fn scan_as_due(kind: Block, history: &mut [i32; 1024], values: [i32; 13]) -> bool {
+    let [ms, a, b, c, d, e, p, q, r, jumps, x, y, z] = values;
+    let call = Call {
+        inputs: [a, b, c, d, e],
+        ms: at_least_zero(ms),
+    };
+    let worked = work_block(kind, &call, history, FIRST);
+    worked.outputs == [p, q, r]
+        && worked.jumps == (jumps == 1)
+        && *history == history_with(kind, &[x, y, z])
 }
 
-fn scan_as_due(kind: Block, history: &mut [i32; 1024], values: &[i32; 13]) -> bool {
-    let inputs = [values[1], values[2], values[3], values[4], values[5]];
-    let worked = work_block(kind, &inputs, history, 700, at_least_zero(values[0]));
-    for k in 0..3usize {
-        if worked.outputs[k] != values[6 + k] {
-            return false;
-        }
-    }
-    worked.jumps == (values[9] == 1) && cells_as_due(history, kind.cells(), values)
-}
-
-// Whether a line holds; a name begins a block anew.
-fn line_holds(line: &str, kind: &mut Block, history: &mut [i32; 1024]) -> bool {
+// Whether a line holds; a name begins a block anew. None where the line is neither.
+fn holds(line: &str, kind: &mut Block, history: &mut [i32; 1024]) -> Option<bool> {
     if let Some((head, rest)) = line.split_once(' ') {
         if let Some(named) = kind_named(head) {
-            let Some(cells) = numbers(rest) else {
-                return false;
-            };
             *kind = named;
-            *history = [9; 1024];
-            put_cells(history, named.cells(), &cells);
-            return true;
+            *history = history_with(named, &numbers(rest)?);
+            return Some(true);
         }
     }
-    match numbers(line) {
-        Some(values) => scan_as_due(*kind, history, &values),
-        None => false,
-    }
+    Some(scan_as_due(*kind, history, numbers(line)?))
 }
 
 #[test]
 fn blocks_go_scan_by_scan(rt: HostRuntime) {
     let mut kind = Block::Esv;
-    let mut history = [9i32; 1024];
+    let mut history = [9; 1024];
     let mut holding = 0usize;
     for line in SCANS.lines() {
-        if !line_holds(line, &mut kind, &mut history) {
+        if holds(line, &mut kind, &mut history) != Some(true) {
             break;
         }
         holding = holding.saturating_add(1);

@@ -67,33 +67,22 @@ fn result_of(operation: &str, left: i32, right: i32) -> Option<i32> {
         "minus" => Some(negate(left)),
         "word" => Some(correct(Width::Word, left)),
         "double" => Some(correct(Width::Double, left)),
-        "delay" => Some(limit(Width::Double, rounded_delay(left) as i64)),
+        "delay" => Some(limit(Width::Double, i64::from(rounded_delay(left)))),
         _ => None,
     }
 }
 
-fn line_holds(line: &str) -> bool {
-    let Some((operation, rest)) = line.split_once(' ') else {
-        return false;
-    };
-    let Some(values) = numbers(rest) else {
-        return false;
-    };
-    match result_of(operation, values[0], values[1]) {
-        Some(result) => result == values[2],
-        None => false,
-    }
+// Whether a line holds; none where it is no sum.
+fn holds(line: &str) -> Option<bool> {
+    let (operation, rest) = line.split_once(' ')?;
+    let values = numbers(rest)?;
+    let result = result_of(operation, values[0], values[1])?;
+    Some(result == values[2])
 }
 
 #[test]
 fn sums_are_limited(rt: HostRuntime) {
-    let mut holding = 0usize;
-    for line in SUMS.lines() {
-        if !line_holds(line) {
-            break;
-        }
-        holding = holding.saturating_add(1);
-    }
     // the lines up to the first that does not hold
-    assert_eq!(rt; holding, 53);
+    let holding = SUMS.lines().take_while(|line| holds(line) == Some(true));
+    assert_eq!(rt; holding.count(), 53);
 }

@@ -1,10 +1,12 @@
 // CTUD, the counter up and down.
-ghost use Rattle.std.specs.Prelude.{◌≡◌};
-ghost use Rattle.blocks.specs.Ctud.{ctud, counted_up, counted_down, counted, counted_on, counter_value, counter_cells, counter_told};
+ghost use Rattle.std.specs.Prelude.{◌≡◌, refl};
+ghost use Rattle.catalogue.specs.declared.Block.TheVariants.{Ctud};
+ghost use Rattle.blocks.specs.Ctud.{ctud, counted_up, counted_down, counted, counted_on, counter_value, counter_cells};
 ghost use Rattle.blocks.specs.Holding.{ctud_fits};
 ghost use Rattle.std.proofs.Common.{rules};
 
 use crate::pins::{bit_of, is_on, rises, three_outputs, word_of};
+use block::call::Call;
 use block::kind::BlockKind;
 use block::worked::Worked;
 use catalogue::Block;
@@ -65,27 +67,23 @@ fn keep_count(inputs: &[i32; 5], cells: &mut [i32; 3]) -> i32
     cv
 }
 
-fn work_ctud(inputs: &[i32; 5], cells: &mut [i32; 3]) -> Worked
-    ensures told { result ≡ counter_told inputs.now cells.old }
-    ensures kept { cells.new ≡ counter_cells inputs.now cells.old }
-{
-    let cv = keep_count(inputs, cells);
-    let pv = word_of(inputs[4]);
-    three_outputs(bit_of(cv >= pv), bit_of(cv <= 0), cv)
-}
-
 impl BlockKind for Ctud {
     ghost meaning = { ctud };
+
+    ghost KIND = { Ctud };
+
+    const KIND: Block = Block::Ctud;
+
+    ghost counted = { refl };
 
     ghost small = { Prim.search rules };
 
     ghost lawful = { ctud_fits };
 
-    fn cells(&self) -> u16 {
-        Block::Ctud.cells()
-    }
-
-    fn work(&self, inputs: &[i32; 5], cells: &mut [i32; 3], _ms: u32) -> Worked {
-        work_ctud(inputs, cells)
+    #[tactic(auto, unfolding(crate::specs::Ctud::ctud_gives))]
+    fn work(&self, call: &Call, cells: &mut [i32; 3]) -> Worked {
+        let cv = keep_count(&call.inputs, cells);
+        let pv = word_of(call.inputs[4]);
+        three_outputs(bit_of(cv >= pv), bit_of(cv <= 0), cv)
     }
 }

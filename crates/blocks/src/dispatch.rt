@@ -12,30 +12,25 @@ use crate::muldi::Muldi;
 use crate::rising_edge::RisingEdge;
 use crate::spbm::Spbm;
 use crate::zuwd::Zuwd;
+use block::call::Call;
 use block::window::work_at;
 use block::worked::Worked;
 use catalogue::Block;
 
 // Works a call of that kind, whose first cell is at `first`.
-pub fn work_block(
-    kind: Block,
-    inputs: &[i32; 5],
-    history: &mut [i32; 1024],
-    first: usize,
-    ms: u32,
-) -> Worked
-    ensures told { result ≡ worked_at (meaning_of kind) inputs.now history.old first ms }
+pub fn work_block(kind: Block, call: &Call, history: &mut [i32; 1024], first: usize) -> Worked
+    ensures told { result ≡ worked_at (meaning_of kind) call.now.inputs history.old first call.now.ms }
     ensures lawful { outputs_fit (pins_of kind) result.outputs ≡ true }
-    ensures kept { history.new ≡ history_after (meaning_of kind) inputs.now history.old first ms }
+    ensures kept { history.new ≡ history_after (meaning_of kind) call.now.inputs history.old first call.now.ms }
     ensures outside { SameOutside first (cells_of kind) history.old history.new }
 {
     match kind {
-        Block::Esv => work_at(&Esv, inputs, history, first, ms),
-        Block::Moa => work_at(&Moa, inputs, history, first, ms),
-        Block::RisingEdge => work_at(&RisingEdge, inputs, history, first, ms),
-        Block::Ctud => work_at(&Ctud, inputs, history, first, ms),
-        Block::Muldi => work_at(&Muldi, inputs, history, first, ms),
-        Block::Zuwd => work_at(&Zuwd, inputs, history, first, ms),
-        Block::Spbm => work_at(&Spbm, inputs, history, first, ms),
+        Block::Esv => work_at(&Esv, call, history, first),
+        Block::Moa => work_at(&Moa, call, history, first),
+        Block::RisingEdge => work_at(&RisingEdge, call, history, first),
+        Block::Ctud => work_at(&Ctud, call, history, first),
+        Block::Muldi => work_at(&Muldi, call, history, first),
+        Block::Zuwd => work_at(&Zuwd, call, history, first),
+        Block::Spbm => work_at(&Spbm, call, history, first),
     }
 }

@@ -1,10 +1,12 @@
 // MULDI, a product divided.
-ghost use Rattle.std.specs.Prelude.{◌≡◌};
+ghost use Rattle.std.specs.Prelude.{◌≡◌, refl};
+ghost use Rattle.catalogue.specs.declared.Block.TheVariants.{Muldi};
 ghost use Rattle.blocks.specs.Muldi.{muldi, muldi_output};
 ghost use Rattle.blocks.specs.Holding.{muldi_fits};
 ghost use Rattle.std.proofs.Common.{rules};
 
 use crate::pins::{one_output, word_of};
+use block::call::Call;
 use block::kind::BlockKind;
 use block::worked::Worked;
 use catalogue::Block;
@@ -21,15 +23,18 @@ fn scale(inputs: &[i32; 5]) -> i32
 impl BlockKind for Muldi {
     ghost meaning = { muldi };
 
+    ghost KIND = { Muldi };
+
+    const KIND: Block = Block::Muldi;
+
+    ghost counted = { refl };
+
     ghost small = { Prim.search rules };
 
     ghost lawful = { muldi_fits };
 
-    fn cells(&self) -> u16 {
-        Block::Muldi.cells()
-    }
-
-    fn work(&self, inputs: &[i32; 5], _cells: &mut [i32; 3], _ms: u32) -> Worked {
-        one_output(scale(inputs))
+    #[tactic(auto, unfolding(crate::specs::Muldi::muldi_gives))]
+    fn work(&self, call: &Call, _cells: &mut [i32; 3]) -> Worked {
+        one_output(scale(&call.inputs))
     }
 }

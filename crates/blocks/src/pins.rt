@@ -14,10 +14,11 @@ pub fn is_on(value: i32) -> bool
     value != 0
 }
 
+// A bit as pins and cells hold it.
 pub fn bit_of(is_set: bool) -> i32
     ensures { result ≡ bit is_set }
 {
-    if is_set { 1 } else { 0 }
+    i32::from(is_set)
 }
 
 // Whether a bit rises over the one that was kept.

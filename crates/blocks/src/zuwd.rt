@@ -1,11 +1,12 @@
 // ZUWD, a double copied.
-ghost use Rattle.std.specs.Prelude.{◌≡◌};
-ghost use Rattle.blocks.specs.Pins.{double_at};
+ghost use Rattle.std.specs.Prelude.{refl};
+ghost use Rattle.catalogue.specs.declared.Block.TheVariants.{Zuwd};
 ghost use Rattle.blocks.specs.Zuwd.{zuwd};
 ghost use Rattle.blocks.specs.Holding.{zuwd_fits};
 ghost use Rattle.std.proofs.Common.{rules};
 
 use crate::pins::one_output;
+use block::call::Call;
 use block::kind::BlockKind;
 use block::worked::Worked;
 use catalogue::Block;
@@ -13,24 +14,21 @@ use number::limit::{Width, correct};
 
 pub struct Zuwd;
 
-fn copy(inputs: &[i32; 5]) -> i32
-    ensures { result ≡ double_at inputs.now 0 }
-{
-    correct(Width::Double, inputs[0])
-}
-
 impl BlockKind for Zuwd {
     ghost meaning = { zuwd };
+
+    ghost KIND = { Zuwd };
+
+    const KIND: Block = Block::Zuwd;
+
+    ghost counted = { refl };
 
     ghost small = { Prim.search rules };
 
     ghost lawful = { zuwd_fits };
 
-    fn cells(&self) -> u16 {
-        Block::Zuwd.cells()
-    }
-
-    fn work(&self, inputs: &[i32; 5], _cells: &mut [i32; 3], _ms: u32) -> Worked {
-        one_output(copy(inputs))
+    #[tactic(auto, unfolding(crate::specs::Zuwd::zuwd_gives))]
+    fn work(&self, call: &Call, _cells: &mut [i32; 3]) -> Worked {
+        one_output(correct(Width::Double, call.inputs[0]))
     }
 }

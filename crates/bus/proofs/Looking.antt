@@ -1,11 +1,12 @@
 -- The first record of a point, looked up and written.
-use Rattle.std.proofs.Common.{◌≡◌, ℕ, zero, suc, ◌+◌, ◌*◌, ◌/◌, ◌%◌, ◌<◌, Bool, true, false, cond, ◌||◌, eqb, ltb, leb, List, [], ◌∷◌, length, get_or, set, Ok, Err, Result, sym, refl, ap, ◌∙◌, arith, length-set, get_or-set_other, get_or-set_same, MatchResult}
+use Rattle.std.proofs.Common.{◌≡◌, ℕ, zero, suc, ◌+◌, ◌*◌, ◌/◌, ◌%◌, ◌<◌, Bool, true, false, cond, ◌||◌, eqb, ltb, leb, List, [], ◌∷◌, length, get_or, set, Ok, Err, Result, Some, None, Option, MatchOption, sym, refl, ap, ◌∙◌, arith, length-set, get_or-set_other, get_or-set_same, MatchResult}
 use Rattle.std.proofs.lemmas.Bool.{eq-eqb, ne_eqb, cond-true, cond-false, lt-ltb, ltb-true, lt-leb, eqb-true}
 use Rattle.std.proofs.lemmas.Bool.Decides.{nat_tests}
+use Rattle.std.specs.Option.{ok_or}
 use Rattle.plant.specs.Points.{Point, absent, Meaning, put_at}
 use Rattle.plant.specs.Points.{driven as driven-point}
-use Rattle.bus.specs.Buses.{on_bus, look, wired_by, besides, besides_seen, driven, blank, NoneBelow, First, Written, Driven}
-use Rattle.bus.specs.declared.BusFault.{BusFault}
+use Rattle.bus.specs.Buses.{on_bus, look, wired_by, besides, besides_seen, driven, blank, NoneBelow, First, Shown, Written, Driven}
+use Rattle.plant.specs.declared.absent.Absent.{Absent}
 use Rattle.bus.specs.declared.Module.{Module}
 
 -- the records once a word is written at place i
@@ -60,6 +61,12 @@ none_found ms p none = by (ltb p 192) refl
 pub shown_first : (ms : List Module) (p i : ℕ) → p < 192 → First ms p i → on_bus ms p ≡ wired_by (get_or ms i blank)
 shown_first ms p i small f = cond-true _ _ _ (lt-ltb p 192 small) ∙ look_first ms p i f.within f.here f.before
 
+-- what the place that was looked up, or none, is to the bus
+pub placed : (L : ℕ) (ms : List Module) (p : ℕ) (r : Option ℕ) → MatchOption r (p < 192 → NoneBelow ms p (length ms)) (λ at. (p < 192) × First ms p at)
+    → MatchResult (ok_or {E = Absent L} r (record { point = p })) (λ at. Shown ms p at) (λ e. (e.point ≡ p) × (on_bus ms p ≡ absent))
+placed L ms p (Some at) f = record { within = f.1.within; shown = shown_first ms p at f.0 f.1 }
+placed L ms p None none = (refl, none_found ms p none)
+
 on_bus_at : (ms : List Module) (p i w k : ℕ) → p < 192 → First ms p i → on_bus (written ms i w) k ≡ put_at (on_bus ms) p w k
 on_bus_at ms p i w k small f =
     let e = look_written ms p i w k f.within f.here f.before in
@@ -88,12 +95,12 @@ module _ (ms : List Module) (p w : ℕ) (ns : List Module) where
       }
 
   -- what a write into the first record, or its refusal, is to the bus
-  pub record Put (r : Result (Unit {0}) BusFault) : Type 0 where
+  pub record Put {L : ℕ} (r : Result (Unit {0}) (Absent L)) : Type 0 where
     pub records : MatchResult r (λ _. Driven ms p w ns) (λ e. (e.point ≡ p) × (on_bus ms p ≡ absent) × (ns ≡ ms))
     pub after : on_bus ns ≡ put_at (on_bus ms) p w
     pub rest : besides ns ≡ besides ms
 
-  pub put_by : (r : Result (Unit {0}) BusFault) → MatchResult r (λ _. Written ms p w ns) (λ e. (e.point ≡ p) × (p < 192 → NoneBelow ms p (length ms)) × (ns ≡ ms)) → Put r
+  pub put_by : {L : ℕ} (r : Result (Unit {0}) (Absent L)) → MatchResult r (λ _. Written ms p w ns) (λ e. (e.point ≡ p) × (p < 192 → NoneBelow ms p (length ms)) × (ns ≡ ms)) → Put r
   put_by (Ok u) x = record {
     records = driven_so x;
     after = ap on_bus x.now ∙ (λ j k. on_bus_at ms p x.place w k x.fit x.first j);

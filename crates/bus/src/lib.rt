@@ -4,8 +4,9 @@
 ghost use Rattle.std.specs.Prelude.{◌≡◌, ◌<◌, List, [], ◌∷◌, length, MatchOption, MatchResult};
 ghost use Rattle.bus.specs.Buses.{on_bus, bus_inside, besides, First, NoneBelow, Shown, Written, Driven};
 ghost use Rattle.bus.specs.declared.Module.{Module as AnyModule};
-ghost use Rattle.plant.specs.Points.{absent, fault_at, put_at};
+ghost use Rattle.plant.specs.Points.{absent, put_at};
 
+use plant::absent::Absent;
 use plant::fault::PlantFault;
 use plant::plant::Plant;
 
@@ -24,24 +25,10 @@ pub struct Bus<'a> {
     pub modules: &'a mut [Module],
 }
 
-// No module of the bus serves the point.
-#[derive(Clone, Copy, Debug, PartialEq)]
-pub struct BusFault {
-    pub point: u16,
-}
-
 pub const LAYER: u16 = 2;
 
-impl From<BusFault> for PlantFault {
-    ghost from_gives = { λ e r. r ≡ fault_at 2 e.point };
-
-    fn from(fault: BusFault) -> PlantFault {
-        PlantFault {
-            point: fault.point,
-            layer: LAYER,
-        }
-    }
-}
+// No module of the bus serves the point.
+pub type BusFault = Absent<LAYER>;
 
 impl<'a> Bus<'a> {
     pub fn new(modules: &'a mut [Module]) -> Bus<'a>
@@ -60,21 +47,13 @@ impl Bus<'_> {
         if point >= 192 {
             return None;
         }
-        for (at, module) in self.modules.iter().enumerate() {
-            if module.point == point {
-                return Some(at);
-            }
-        }
-        None
+        self.modules.iter().position(|module| module.point == point)
     }
 
     fn place(&self, point: u16) -> Result<usize, BusFault>
         ensures { MatchResult result (λ at. Shown self.now.modules.now point at) (λ e. (e.point ≡ point) × (on_bus self.now.modules.now point ≡ absent)) }
     {
-        match self.first_of(point) {
-            Some(at) => Ok(at),
-            None => Err(BusFault { point }),
-        }
+        self.first_of(point).ok_or(BusFault { point })
     }
 
     // Writes the word into the first record of the point.
@@ -82,12 +61,9 @@ impl Bus<'_> {
         ensures records { MatchResult result (λ _. Written self.old.modules.now point word self.new.modules.now) (λ e. (e.point ≡ point) × (point < 192 → NoneBelow self.old.modules.now point (length self.old.modules.now)) × (self.new.modules.now ≡ self.old.modules.now)) }
         ensures lent { self.new.modules.ghost_name ≡ self.old.modules.ghost_name }
     {
-        let Some(at) = self.first_of(point) else {
-            return Err(BusFault { point });
-        };
+        let at = self.first_of(point).ok_or(BusFault { point })?;
         let module = &mut self.modules[at];
-        module.output_low = (word % 256) as u8;
-        module.output_high = (word / 256) as u8;
+        [module.output_low, module.output_high] = word.to_le_bytes();
         Ok(())
     }
 
@@ -129,7 +105,7 @@ impl<'a> Plant for Bus<'a> {
     fn take(&mut self, point: u16) -> Result<u16, PlantFault> {
         let at = self.place(point)?;
         let module = &self.modules[at];
-        Ok(module.input_low as u16 + 256 * module.input_high as u16)
+        Ok(u16::from_le_bytes([module.input_low, module.input_high]))
     }
 
     fn put(&mut self, point: u16, word: u16) -> Result<(), PlantFault> {

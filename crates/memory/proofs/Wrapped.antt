@@ -1,11 +1,14 @@
 -- From the arrays to the memory around them.
-use Rattle.std.proofs.Common.{◌≡◌, true, List, length, ℤ, sym, subst}
+use Rattle.std.proofs.Common.{◌≡◌, ℕ, true, List, length, ℤ, sym, subst}
 use Rattle.number.specs.declared.limit.Width.TheVariants.{Word, Double}
 use Rattle.store.specs.declared.store.Store.{Store}
 use Rattle.memory.specs.declared.memory.Memory.{Memory}
 use Rattle.memory.specs.Facts.{steps_lawful, all_lawful, sizes_of, all_sizes}
 use Rattle.store.specs.Changes.{with_history}
+use Rattle.memory.specs.Laws.{TellsWord}
+use Rattle.memory.specs.Readings.{output_word_of}
 use Rattle.memory.proofs.Held.{Held, held_history}
+use Rattle.memory.proofs.Told.{word_told}
 
 pub held_of : (x : Memory) → Held x.store
 held_of x = record {
@@ -47,3 +50,7 @@ facts {n} e h = asked n (subst Held (sym e) h)
 -- where the history is lent: the facts once it is put back
 pub lent : (x : Memory) (cells : List ℤ) → length cells ≡ length x.store.history → Asked (with_history x.store cells)
 lent x cells e = asked (with_history x.store cells) (held_history x.store (held_of x) cells e)
+
+-- what is told of an output word, at a memory whose type keeps what that asks
+pub word_told_of : (x : Memory) (p : ℕ) → TellsWord x.store p (output_word_of x.store p)
+word_told_of x p = word_told x.store (held_of x) p

@@ -12,6 +12,7 @@ use store::store::Store;
 
 impl Memory {
     // All 0, with step 0 set in each chain.
+    #[tactic(auto, unfolding(crate::specs::Writings::new_memory))]
     pub fn new() -> Memory
         ensures { result.store ≡ new_memory }
     {
@@ -28,10 +29,11 @@ impl Memory {
     {}
 
     // The value of an operand; 0 where memory has no such place.
+    #[tactic(auto, unfolding(crate::specs::Readings::value_of))]
     pub fn read(&self, operand: Operand) -> i32
         ensures { result ≡ value_of self.now.store operand }
     {
-        self.held(operand)
+        self.store.read(operand.kind, operand.place())
     }
 
     // Stores a value in an operand of a kind that lists write: A, M, S, AW, MW or MD.
@@ -42,10 +44,11 @@ impl Memory {
         self.put(operand, value);
     }
 
+    #[tactic(auto, unfolding(crate::specs::Readings::cell_of))]
     pub fn cell(&self, cell: u16) -> i32
         ensures { result ≡ cell_of self.now.store cell }
     {
-        self.cell_held(cell)
+        self.store.cell(cell)
     }
 
     pub fn store_cell(&mut self, cell: u16, value: i32)
@@ -56,18 +59,20 @@ impl Memory {
     }
 
     // The sixteen outputs of a group as a word, channel 0 the lowest bit.
+    #[tactic(auto, using(crate::proofs::Told::outputs_told), unfolding(crate::specs::Readings::outputs_of))]
     pub fn outputs(&self, group: u8) -> u16
         ensures value { result ≡ outputs_of self.now.store group }
         ensures law { TellsOutputs self.now.store group result }
     {
-        self.outputs_held(group)
+        self.store.tell_group(group)
     }
 
     // The sixteen bits of the output word at a place.
+    #[tactic(auto, using(crate::proofs::Wrapped::word_told_of), unfolding(crate::specs::Readings::output_word_of))]
     pub fn output_word(&self, place: u8) -> u16
         ensures value { result ≡ output_word_of self.now.store place }
         ensures law { TellsWord self.now.store place result }
     {
-        self.output_word_held(place)
+        self.store.tell_word(place)
     }
 }

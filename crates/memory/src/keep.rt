@@ -1,39 +1,14 @@
-// The calls on a memory's arrays, each keeping the facts of its type.
-// The public calls add what they mean for operands and cells.
+// The changes of a memory's arrays, each keeping the facts of its type.
+// The public calls add what they mean for operands and cells: a law has a proof of its own.
 ghost use Rattle.std.specs.Prelude.{◌≡◌};
 ghost use Rattle.operand.specs.Codes.{place_of};
 ghost use Rattle.store.specs.Changes.{stored_at, constant_at, group_loaded, word_loaded, cell_put, cleared_at, cells_cleared};
-ghost use Rattle.store.specs.Values.{value_at, cell_at, group_told, word_told};
 
 use crate::memory::Memory;
 use operand::kind::Kind;
 use operand::operand::Operand;
 
 impl Memory {
-    pub(crate) fn held(&self, operand: Operand) -> i32
-        ensures { result ≡ value_at self.now.store operand.kind (place_of operand) }
-    {
-        self.store.read(operand.kind, operand.place())
-    }
-
-    pub(crate) fn cell_held(&self, cell: u16) -> i32
-        ensures { result ≡ cell_at self.now.store cell }
-    {
-        self.store.cell(cell)
-    }
-
-    pub(crate) fn outputs_held(&self, group: u8) -> u16
-        ensures { result ≡ group_told self.now.store group }
-    {
-        self.store.tell_group(group)
-    }
-
-    pub(crate) fn output_word_held(&self, place: u8) -> u16
-        ensures { result ≡ word_told self.now.store place }
-    {
-        self.store.tell_word(place)
-    }
-
     pub(crate) fn put(&mut self, operand: Operand, value: i32)
         ensures { self.new.store ≡ stored_at self.old.store operand.kind (place_of operand) value }
     {

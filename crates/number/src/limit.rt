@@ -2,7 +2,7 @@
 ghost use Rattle.std.specs.Prelude.{◌≡◌, true, pos};
 ghost use Rattle.number.specs.Limits.{top_of, limited_to, lawful, corrected};
 
-#[derive(Clone, Copy)]
+#[derive(Clone, Copy, Debug, PartialEq, Eq)]
 pub enum Width {
     Word,
     Double,
@@ -26,14 +26,8 @@ pub fn limit(width: Width, number: i64) -> i32
     ensures lawful { lawful width result ≡ true }
     ensures same { lawful width number ≡ true → result ≡ number }
 {
-    let top = width.top();
-    if number > top as i64 {
-        top
-    } else if number < -(top as i64) {
-        -top
-    } else {
-        number as i32
-    }
+    let top = i64::from(width.top());
+    number.clamp(-top, top) as i32
 }
 
 // What is read where an operand holds `held`: a forbidden value is read as the lowest lawful one.
@@ -42,5 +36,5 @@ pub fn correct(width: Width, held: i32) -> i32
     ensures lawful { lawful width result ≡ true }
     ensures same { lawful width held ≡ true → result ≡ held }
 {
-    limit(width, held as i64)
+    limit(width, i64::from(held))
 }

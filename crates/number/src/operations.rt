@@ -10,21 +10,21 @@ pub fn add(a: i32, b: i32) -> i32
     ensures value { result ≡ sum a b }
     ensures lawful { lawful Word result ≡ true }
 {
-    limit(Width::Word, a as i64 + b as i64)
+    limit(Width::Word, i64::from(a) + i64::from(b))
 }
 
 pub fn subtract(a: i32, b: i32) -> i32
     ensures value { result ≡ difference a b }
     ensures lawful { lawful Word result ≡ true }
 {
-    limit(Width::Word, a as i64 - b as i64)
+    limit(Width::Word, i64::from(a) - i64::from(b))
 }
 
 pub fn negate(a: i32) -> i32
     ensures value { result ≡ negative a }
     ensures lawful { lawful Word result ≡ true }
 {
-    limit(Width::Word, -(a as i64))
+    limit(Width::Word, -i64::from(a))
 }
 
 // The exact product, and that it can be divided by -1.
@@ -32,7 +32,7 @@ fn exact_product(a: i32, b: i32) -> i64
     ensures value { result ≡ a *ℤ b }
     ensures above { negsuc 9223372036854775806 ≤ℤ result }
 {
-    a as i64 * b as i64
+    i64::from(a) * i64::from(b)
 }
 
 // The quotient cut towards 0; by 0 the end of the words on the dividend's side.
@@ -41,13 +41,7 @@ fn cut_quotient(dividend: i64, divisor: i64) -> i64
     ensures { result ≡ cut dividend divisor }
 {
     if divisor == 0 {
-        if dividend > 0 {
-            32_767
-        } else if dividend < 0 {
-            -32_767
-        } else {
-            0
-        }
+        32_767 * dividend.signum()
     } else {
         dividend / divisor
     }
@@ -65,7 +59,7 @@ pub fn divide(a: i32, b: i32) -> i32
     ensures value { result ≡ quotient a b }
     ensures lawful { lawful Word result ≡ true }
 {
-    limit(Width::Word, cut_quotient(a as i64, b as i64))
+    limit(Width::Word, cut_quotient(i64::from(a), i64::from(b)))
 }
 
 // `z1 × z2 : z3`: only the result is limited, so a product may pass the words on its way.
@@ -73,14 +67,17 @@ pub fn multiply_divide(z1: i32, z2: i32, z3: i32) -> i32
     ensures value { result ≡ scaled z1 z2 z3 }
     ensures lawful { lawful Word result ≡ true }
 {
-    limit(Width::Word, cut_quotient(exact_product(z1, z2), z3 as i64))
+    limit(
+        Width::Word,
+        cut_quotient(exact_product(z1, z2), i64::from(z3)),
+    )
 }
 
 // A value below 0 counts as 0.
 pub fn at_least_zero(a: i32) -> u32
     ensures { result ≡ natural a }
 {
-    if a < 0 { 0 } else { a as u32 }
+    u32::try_from(a).unwrap_or(0)
 }
 
 // A delay in ms, rounded down to a multiple of 5.

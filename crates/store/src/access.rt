@@ -36,7 +36,7 @@ impl Store {
     pub fn read(&self, kind: Kind, place: u16) -> i32
         ensures { result ≡ value_at self.now kind place }
     {
-        let p = place as usize;
+        let p = usize::from(place);
         match kind {
             Kind::Input => bit(at(&self.inputs, p, false)),
             Kind::Output => bit(at(&self.outputs, p, false)),
@@ -44,9 +44,9 @@ impl Store {
             Kind::Step => bit(at(&self.chains, p / 16, NO_CHAIN).is_set((place % 16) as u8)),
             Kind::Constant => bit(place == 1),
             Kind::InputWord => correct(Width::Word, signed(at(&self.input_words, p, 0))),
-            Kind::OutputWord => correct(Width::Word, at(&self.output_words, p, 0) as i32),
-            Kind::MarkerWord => correct(Width::Word, at(&self.marker_words, p, 0) as i32),
-            Kind::ConstantWord => correct(Width::Word, at(&self.constant_words, p, 0) as i32),
+            Kind::OutputWord => correct(Width::Word, i32::from(at(&self.output_words, p, 0))),
+            Kind::MarkerWord => correct(Width::Word, i32::from(at(&self.marker_words, p, 0))),
+            Kind::ConstantWord => correct(Width::Word, i32::from(at(&self.constant_words, p, 0))),
             Kind::MarkerDouble => correct(Width::Double, at(&self.marker_doubles, p, 0)),
             Kind::ConstantDouble => correct(Width::Double, at(&self.constant_doubles, p, 0)),
         }
@@ -64,7 +64,7 @@ impl Store {
     pub fn store(&mut self, kind: Kind, place: u16, value: i32)
         ensures { self.new ≡ stored_at self.old kind place value }
     {
-        let p = place as usize;
+        let p = usize::from(place);
         match kind {
             Kind::Output => put(&mut self.outputs, p, value != 0),
             Kind::Marker => put(&mut self.markers, p, value != 0),
@@ -79,7 +79,7 @@ impl Store {
                 put(
                     &mut self.marker_doubles,
                     p,
-                    limit(Width::Double, value as i64),
+                    limit(Width::Double, i64::from(value)),
                 )
             }
             Kind::Input
@@ -93,13 +93,13 @@ impl Store {
     pub fn cell(&self, cell: u16) -> i32
         ensures { result ≡ cell_at self.now cell }
     {
-        at(&self.history, cell as usize, 0)
+        at(&self.history, usize::from(cell), 0)
     }
 
     pub fn store_cell(&mut self, cell: u16, value: i32)
         ensures { self.new ≡ cell_put self.old cell value }
     {
-        put(&mut self.history, cell as usize, value);
+        put(&mut self.history, usize::from(cell), value);
     }
 
     pub fn clear_cells(&mut self)

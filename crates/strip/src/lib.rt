@@ -2,9 +2,9 @@
 #![tactic(auto)]
 
 ghost use Rattle.std.specs.Prelude.{◌≡◌, ℕ, ◌+◌, ◌*◌, ◌<◌, [], ◌∷◌, length, MatchResult};
-ghost use Rattle.plant.specs.Points.{fault_at};
 ghost use Rattle.strip.specs.Strips.{on_strip, strip_inside, besides, Has};
 
+use plant::absent::Absent;
 use plant::fault::PlantFault;
 use plant::plant::Plant;
 
@@ -13,24 +13,10 @@ pub struct Strip<'a> {
     pub words: &'a mut [u16],
 }
 
-// The strip has no terminal for the point.
-#[derive(Clone, Copy, Debug, PartialEq)]
-pub struct StripFault {
-    pub point: u16,
-}
-
 pub const LAYER: u16 = 1;
 
-impl From<StripFault> for PlantFault {
-    ghost from_gives = { λ e r. r ≡ fault_at 1 e.point };
-
-    fn from(fault: StripFault) -> PlantFault {
-        PlantFault {
-            point: fault.point,
-            layer: LAYER,
-        }
-    }
-}
+// The strip has no terminal for the point.
+pub type StripFault = Absent<LAYER>;
 
 impl<'a> Strip<'a> {
     pub fn new(words: &'a mut [u16]) -> Strip<'a>
@@ -46,7 +32,7 @@ impl Strip<'_> {
     fn terminal(&self, point: u16) -> Result<usize, StripFault>
         ensures { MatchResult result (λ at. (at ≡ 2 * point) × Has self.now.words.now point) (λ e. (e.point ≡ point) × (Has self.now.words.now point → ⊥)) }
     {
-        let at = 2 * point as usize;
+        let at = 2 * usize::from(point);
         if point < 192 && at + 1 < self.words.len() {
             Ok(at)
         } else {
