@@ -164,6 +164,15 @@ def main():
         print(f"{row}  {len(places):3}  {what}")
         if LIST:
             print("\n".join(places))
+    proofs = sorted(ROOT.glob("crates/*/proofs/**/*.antt"))
+    answers = [f for f in proofs if f.name == "Answers.antt"]
+    lines = [f.read_text() for f in proofs]
+    print(f"8  {len(proofs):3}  files of proofs, {sum(t.count(chr(10)) for t in lines)} lines")
+    print(f"8  {len(answers):3}  files of answers")
+    bare = [f for f in answers if re.search(r"\bc = search rules$", f.read_text(), re.M)]
+    print(f"8  {len(bare):3}  files with an answer that is `search rules` alone")
+    if LIST:
+        print("\n".join(f"    {f.relative_to(ROOT)}" for f in bare))
     for what, rows in (("a requires that stands in three functions or more", list(repeated())),
                        ("two parameters that travel together in three functions or more", list(travelling()))):
         print(f"5  {len(rows):3}  {what}")
