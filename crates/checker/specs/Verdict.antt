@@ -4,7 +4,8 @@ use Rattle.operand.specs.declared.edition.Edition.{Edition}
 use Rattle.told.specs.declared.Told.{Told}
 use Rattle.view.specs.declared.Image.{Image}
 use Rattle.view.specs.Trailers.{has_trailer, edition_in, known_edition, sizes_fit, item_part, constant_part, items_in, cells_in}
-use Rattle.rule.specs.Automata.{Automaton, first_fault, items_of}
+use Rattle.rule.specs.Automata.{Automaton, first_fault}
+use Rattle.decode.specs.Words.{items_of}
 use Rattle.constants.specs.Decoded.{constants_of}
 use Rattle.constants.specs.Lawful.{constant_fault}
 use Rattle.grammar.specs.Grammar.{grammar}
