@@ -1,4 +1,4 @@
-use Rattle.std.proofs.Common.{◌≡◌, ◌∷◌, [], length, ap, arith, rules}
+use Rattle.std.proofs.Common.{◌≡◌, [], rules}
 use Rattle.decode.specs.Words.{items_of}
 use Rattle.decode.proofs.Places.{items_next, short}
 use Rattle.decode.proofs.items.ItemsIterator.next.Goals as goal
