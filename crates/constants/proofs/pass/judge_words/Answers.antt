@@ -1,6 +1,6 @@
 use Rattle.std.proofs.Common.{arith}
 use Rattle.constants.proofs.Judging.{judged}
-use Rattle.constants.proofs.pass.constant_fault.Goals as goal
+use Rattle.constants.proofs.pass.judge_words.Goals as goal
 
 pub returns : goal.returns
 returns c =
