@@ -76,9 +76,9 @@ fn nameless(edition: Edition, number: u16, argument: u16) -> Option<Item>
 fn item_of(edition: Edition, number: u16, argument: u16) -> Option<Item>
     ensures { result ≡ item_decoded edition number argument }
 {
-    match Mnemonic::numbered(number) {
-        Some(mnemonic) => written(edition, mnemonic, argument),
-        None => nameless(edition, number, argument),
+    match Mnemonic::try_from(number) {
+        Ok(mnemonic) => written(edition, mnemonic, argument),
+        Err(_) => nameless(edition, number, argument),
     }
 }
 

@@ -61,7 +61,7 @@ pub fn view_image<'a>(words: &'a [u16]) -> Result<Image<'a>, OpenRefusal>
     if !is_image(words) {
         return Err(OpenRefusal::NoTrailer);
     }
-    let Some(edition) = Edition::numbered(trailer_word(words, 2)) else {
+    let Ok(edition) = Edition::try_from(trailer_word(words, 2)) else {
         return Err(OpenRefusal::NoEdition);
     };
     if !fits(words) {
