@@ -8,7 +8,7 @@ ghost use Rattle.operand.specs.Codes.{decoded};
 pub mod items;
 
 use catalogue::Block;
-use item::item::{Item, NO_NUMBER};
+use item::item::{Item, NO_NUMBER, Nameless};
 use item::mnemonic::{Form, Mnemonic};
 use operand::edition::Edition;
 use operand::operand::decode;
@@ -65,11 +65,10 @@ fn written(edition: Edition, mnemonic: Mnemonic, argument: u16) -> Option<Item>
 fn nameless(edition: Edition, number: u16, argument: u16) -> Option<Item>
     ensures { result ≡ nameless_decoded edition number argument }
 {
-    match number {
-        8 => decode(edition, argument).map(Item::Operand),
-        41 => Block::numbered(edition, argument).map(Item::Kind),
-        42 => decode(edition, argument).map(Item::Pin),
-        _ => None,
+    match Nameless::try_from(number).ok()? {
+        Nameless::Operand => decode(edition, argument).map(Item::Operand),
+        Nameless::Kind => Block::numbered(edition, argument).map(Item::Kind),
+        Nameless::Pin => decode(edition, argument).map(Item::Pin),
     }
 }
 

@@ -4,9 +4,10 @@ ghost use Rattle.decode.specs.Words.{item_at};
 ghost use Rattle.marks.specs.Cells.{cells_asked, all_cells};
 
 use decode::items::Items;
+use item::item::Nameless;
 
-// The item that names a block kind.
-const KIND: u16 = 41;
+// The number of an item that names a block kind.
+const KIND: u16 = Nameless::Kind as u16;
 
 // The cells that the item at a place asks for: those of the block kind that it names.
 // Only an item that names one has its number, so no other item is decoded.
