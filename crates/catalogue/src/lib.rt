@@ -3,23 +3,23 @@
 #![tactic(auto)]
 
 ghost use Rattle.std.specs.Prelude.{◌≡◌};
-ghost use Rattle.catalogue.specs.Blocks.{number_of, block_in_90, block_numbered, name_of, pins_of, cells_of};
+ghost use Rattle.catalogue.specs.Blocks.{number_of, block_numbered, name_of, pins_of, cells_of};
 
 use operand::edition::Edition;
 use operand::kind::Size;
 
-#[derive(Clone, Copy)]
+#[derive(Clone, Copy, Debug, PartialEq, Eq)]
 pub enum Block {
-    Esv,
-    Moa,
-    RisingEdge,
-    Ctud,
-    Muldi,
-    Zuwd,
-    Spbm,
+    Esv = 1,
+    Moa = 3,
+    RisingEdge = 4,
+    Ctud = 5,
+    Muldi = 6,
+    Zuwd = 7,
+    Spbm = 8,
 }
 
-#[derive(Clone, Copy)]
+#[derive(Clone, Copy, Debug, PartialEq, Eq)]
 pub enum Pin {
     Input(Size),
     Output(Size),
@@ -57,42 +57,27 @@ static COPY: [Pin; 2] = [Pin::Input(Size::Double), Pin::Output(Size::Double)];
 
 static JUMP: [Pin; 2] = [Pin::Input(Size::Bit), Pin::Mark];
 
-fn in_series_90(number: u16) -> Option<Block>
-    ensures { result ≡ block_in_90 number }
-{
-    match number {
-        1 => Some(Block::Esv),
-        3 => Some(Block::Moa),
-        4 => Some(Block::RisingEdge),
-        5 => Some(Block::Ctud),
-        6 => Some(Block::Muldi),
-        7 => Some(Block::Zuwd),
-        8 => Some(Block::Spbm),
-        _ => None,
-    }
-}
-
 impl Block {
     pub fn number(self) -> u16
         ensures { result ≡ number_of self }
     {
-        match self {
-            Block::Esv => 1,
-            Block::Moa => 3,
-            Block::RisingEdge => 4,
-            Block::Ctud => 5,
-            Block::Muldi => 6,
-            Block::Zuwd => 7,
-            Block::Spbm => 8,
-        }
+        self as u16
     }
 
     // The block kind with that number, if the edition knows it.
+    // Its number alone names no kind, so this is a look-up in an edition and no conversion.
     pub fn numbered(edition: Edition, number: u16) -> Option<Block>
         ensures { result ≡ block_numbered edition number }
     {
-        match edition {
-            Edition::Series90 => in_series_90(number),
+        match (edition, number) {
+            (Edition::Series90, 1) => Some(Block::Esv),
+            (Edition::Series90, 3) => Some(Block::Moa),
+            (Edition::Series90, 4) => Some(Block::RisingEdge),
+            (Edition::Series90, 5) => Some(Block::Ctud),
+            (Edition::Series90, 6) => Some(Block::Muldi),
+            (Edition::Series90, 7) => Some(Block::Zuwd),
+            (Edition::Series90, 8) => Some(Block::Spbm),
+            _ => None,
         }
     }
 

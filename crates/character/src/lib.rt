@@ -4,7 +4,7 @@
 ghost use Rattle.std.specs.Prelude.{◌≡◌};
 ghost use Rattle.character.specs.Classes.{class_of, is_digit, is_comma, is_separator};
 
-#[derive(Clone, Copy)]
+#[derive(Clone, Copy, Debug, PartialEq, Eq)]
 pub enum Class {
     Digit,
     Comma,
@@ -28,17 +28,17 @@ pub fn class_of(c: char) -> Class
 pub fn is_digit(byte: u8) -> bool
     ensures { result ≡ is_digit byte }
 {
-    matches!(class_of(char::from(byte)), Class::Digit)
+    class_of(char::from(byte)) == Class::Digit
 }
 
 pub fn is_comma(byte: u8) -> bool
     ensures { result ≡ is_comma byte }
 {
-    matches!(class_of(char::from(byte)), Class::Comma)
+    class_of(char::from(byte)) == Class::Comma
 }
 
 pub fn is_separator(byte: u8) -> bool
     ensures { result ≡ is_separator byte }
 {
-    matches!(class_of(char::from(byte)), Class::Separator)
+    class_of(char::from(byte)) == Class::Separator
 }

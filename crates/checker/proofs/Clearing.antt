@@ -1,5 +1,5 @@
 -- Questions that all get a yes.
-use Rattle.std.proofs.Common.{◌≡◌, ℕ, Bool, true, false, List, [], ◌∷◌, Some, None, Option, refl, ap, ◌∙◌, arith}
+use Rattle.std.proofs.Common.{◌≡◌, ℕ, Bool, true, false, List, [], ◌∷◌, ◌++◌, Some, None, Option, sym, refl, ap, ◌∙◌, arith}
 use Rattle.told.specs.declared.Told.{Told}
 use Rattle.checker.specs.Verdict.{Question, unless, no_or, first_no, then_no, unless_refused, passed}
 
@@ -19,6 +19,13 @@ both_clear n (Some p) r h = let z : ◌≡◌ {A = ℕ} 0 1 = cc in absurd (omeg
 pub each_clear : {A : Type 0} (qs : List (Question A)) (a : A) → first_no qs a ≡ None → Clear qs a
 each_clear [] a h = tt
 each_clear (q ∷ qs) a h = let (o, r) = both_clear q.number (q.fault a) (first_no qs a) h in (o, each_clear qs a r)
+
+-- behind questions that all get a yes, the others decide
+pub behind_clear : {A : Type 0} (qs rs : List (Question A)) (a : A) → None ≡ first_no qs a → first_no rs a ≡ first_no (qs ++ rs) a
+behind_clear [] rs a h = refl
+behind_clear (q ∷ qs) rs a h =
+    let (o, r) = both_clear q.number (q.fault a) (first_no qs a) (sym h) in
+    behind_clear qs rs a (sym r) ∙ ap (λ (p : Option ℕ). no_or q.number p (first_no (qs ++ rs) a)) (sym o)
 
 pub then_clear : (o r : Option Told) → then_no o r ≡ None → (o ≡ None) × (r ≡ None)
 then_clear None r h = (refl, h)

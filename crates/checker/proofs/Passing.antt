@@ -9,7 +9,8 @@ use Rattle.view.specs.Trailers.{has_trailer, edition_in, known_edition, sizes_fi
 use Rattle.constants.specs.Decoded.{constants_of}
 use Rattle.constants.specs.Lawful.{ConstantsLawful, constant_fault}
 use Rattle.constants.proofs.Judging as Constants
-use Rattle.rule.specs.Automata.{Automaton, fault_from, fault_on, stepped, first_fault, items_of, known}
+use Rattle.rule.specs.Automata.{Automaton, fault_from, fault_on, stepped, first_fault, known}
+use Rattle.decode.specs.Words.{items_of}
 use Rattle.grammar.specs.declared.automaton.Grammar.TheVariants.{Between, Done}
 use Rattle.grammar.specs.Grammar.{grammar}
 use Rattle.grammar.specs.Lists.{IsList, Judged}

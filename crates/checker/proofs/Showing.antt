@@ -2,7 +2,8 @@
 use Rattle.std.proofs.Common.{◌≡◌, ℕ, zero, suc, ◌<◌, Bool, true, ◌&&◌, ltb, List, [], ◌∷◌, get_or, refl, arith}
 use Rattle.std.proofs.lemmas.Bool.Decides.{nat_tests}
 use Rattle.image.specs.Example.{example_words}
-use Rattle.rule.specs.Automata.{fault_from, items_of}
+use Rattle.rule.specs.Automata.{fault_from}
+use Rattle.decode.specs.Words.{items_of}
 use Rattle.constants.specs.Decoded.{constants_of}
 use Rattle.constants.specs.Lawful.{constant_fault}
 use Rattle.marks.specs.Places.{first_of}

@@ -4,7 +4,8 @@ use Rattle.operand.specs.declared.edition.Edition.{Edition}
 use Rattle.told.specs.declared.Told.{Told}
 use Rattle.view.specs.declared.Image.{Image}
 use Rattle.view.specs.Trailers.{has_trailer, edition_in, known_edition, sizes_fit, item_part, constant_part, items_in, cells_in}
-use Rattle.rule.specs.Automata.{Automaton, first_fault, items_of}
+use Rattle.rule.specs.Automata.{Automaton, first_fault}
+use Rattle.decode.specs.Words.{items_of}
 use Rattle.constants.specs.Decoded.{constants_of}
 use Rattle.constants.specs.Lawful.{constant_fault}
 use Rattle.grammar.specs.Grammar.{grammar}
@@ -59,17 +60,19 @@ known_questions =
     ∷ []
 
 -- behind them grammar, depth, types, targets, pins, marks, cells
-abbrev pub list_questions : List (Question Parts)
-list_questions =
-    known_questions
-    ++ (ask 6 (refused_by grammar)
+abbrev pub further_questions : List (Question Parts)
+further_questions =
+    ask 6 (refused_by grammar)
     ∷ ask 7 (refused_by depths)
     ∷ ask 8 (refused_by types)
     ∷ ask 9 (refused_by targets)
     ∷ ask 10 (refused_by pins)
     ∷ ask 11 (λ p. jump_fault p.edition p.items)
     ∷ ask 12 (λ p. unless (all_cells p.edition p.items == p.cells && nat_le p.cells 1024))
-    ∷ [])
+    ∷ []
+
+abbrev pub list_questions : List (Question Parts)
+list_questions = known_questions ++ further_questions
 
 -- the first question in the list that gets a no
 abbrev pub no_or : ℕ → Option ℕ → Option Told → Option Told

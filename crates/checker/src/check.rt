@@ -1,10 +1,11 @@
 // The check.
-ghost use Rattle.std.specs.Prelude.{◌≡◌};
-ghost use Rattle.checker.specs.Verdict.{answered, first_no, known_questions, list_questions, no_of, seen, verdict_of};
+ghost use Rattle.std.specs.Prelude.{◌≡◌, MatchOption, Ok as Ok-of, Err as Err-of};
+ghost use Rattle.checker.specs.Verdict.{Parts, answered, first_no, further_questions, known_questions, list_questions, no_of, seen, verdict_of};
 ghost use Rattle.checker.specs.Passes.{Judges};
 
 use crate::refusal::CheckRefusal;
 use constants::pass::constant_fault;
+use decode::items::Items;
 use fitting::depth::Depth;
 use fitting::known::Known;
 use fitting::pins::Pins;
@@ -26,53 +27,47 @@ pub struct Passed {
     pub cells: u16,
 }
 
+// A fault that a question finds, as the refusal that tells it.
+fn refuse(refusal: Option<CheckRefusal>) -> Result<(), CheckRefusal>
+    ensures { MatchOption refusal (result ≡ Ok-of tt) (λ q. result ≡ Err-of q) }
+{
+    match refusal {
+        Some(refusal) => Err(refusal),
+        None => Ok(()),
+    }
+}
+
 // Questions 4 and 5: whether constants and items are known.
 pub fn judge_known(image: Image) -> Result<(), CheckRefusal>
     ensures { no_of result ≡ first_no known_questions (seen image.entry) }
 {
-    if let Some(place) = constant_fault(image.edition, image.constants) {
-        return Err(CheckRefusal::NoConstant(place));
+    refuse(constant_fault(image.constants()).map(CheckRefusal::NoConstant))?;
+    refuse(find_fault::<Known>(image.items()).map(CheckRefusal::NoItem))
+}
+
+// Questions 6 to 12, in this order.
+fn judge_list(items: Items, cells: u16) -> Result<(), CheckRefusal>
+    ensures { (p : Parts) → p.edition ≡ items.entry.edition → p.items ≡ items.entry.words.now → p.cells ≡ cells → no_of result ≡ first_no further_questions p }
+{
+    refuse(list_fault(items).map(CheckRefusal::NoList))?;
+    refuse(find_fault::<Depth>(items).map(CheckRefusal::TooDeep))?;
+    refuse(find_fault::<Types>(items).map(CheckRefusal::NoType))?;
+    refuse(find_fault::<Targets>(items).map(CheckRefusal::NoTarget))?;
+    refuse(find_fault::<Pins>(items).map(CheckRefusal::NoPin))?;
+    refuse(jump_fault(items).map(CheckRefusal::NoMark))?;
+    if count_cells(items) == cells as usize && cells <= MOST_CELLS {
+        Ok(())
+    } else {
+        Err(CheckRefusal::NoCells)
     }
-    if let Some(place) = find_fault::<Known>(image.edition, image.items) {
-        return Err(CheckRefusal::NoItem(place));
-    }
-    Ok(())
 }
 
 // Questions 4 to 12, in this order.
 fn judge(image: Image) -> Result<(), CheckRefusal>
     ensures { no_of result ≡ first_no list_questions (seen image.entry) }
 {
-    let edition = image.edition;
-    let items = image.items;
-    if let Some(place) = constant_fault(edition, image.constants) {
-        return Err(CheckRefusal::NoConstant(place));
-    }
-    if let Some(place) = find_fault::<Known>(edition, items) {
-        return Err(CheckRefusal::NoItem(place));
-    }
-    if let Some(place) = list_fault(edition, items) {
-        return Err(CheckRefusal::NoList(place));
-    }
-    if let Some(place) = find_fault::<Depth>(edition, items) {
-        return Err(CheckRefusal::TooDeep(place));
-    }
-    if let Some(place) = find_fault::<Types>(edition, items) {
-        return Err(CheckRefusal::NoType(place));
-    }
-    if let Some(place) = find_fault::<Targets>(edition, items) {
-        return Err(CheckRefusal::NoTarget(place));
-    }
-    if let Some(place) = find_fault::<Pins>(edition, items) {
-        return Err(CheckRefusal::NoPin(place));
-    }
-    if let Some(place) = jump_fault(edition, items) {
-        return Err(CheckRefusal::NoMark(place));
-    }
-    if count_cells(edition, items) != image.cells as usize || image.cells > MOST_CELLS {
-        return Err(CheckRefusal::NoCells);
-    }
-    Ok(())
+    judge_known(image)?;
+    judge_list(image.items(), image.cells)
 }
 
 fn decide(words: &[u16]) -> Result<Passed, CheckRefusal>
@@ -81,7 +76,7 @@ fn decide(words: &[u16]) -> Result<Passed, CheckRefusal>
     let image = view_image(words)?;
     judge(image)?;
     Ok(Passed {
-        items: (image.items.len() / 2) as u16,
+        items: image.items().len() as u16,
         cells: image.cells,
     })
 }

@@ -1,5 +1,5 @@
 -- One turn of the pass.
-use Rattle.std.proofs.Common.{◌≡◌, ℕ, suc, ◌+◌, ◌*◌, ◌/◌, ◌<◌, Bool, true, false, cond, List, [], ◌∷◌, length, get_or, drop, Some, None, Option, sym, refl, ap, ◌∙◌, arith, length-drop, drop-cons}
+use Rattle.std.proofs.Common.{◌≡◌, ℕ, suc, ◌+◌, ◌*◌, ◌/◌, ◌<◌, Bool, true, false, cond, List, [], ◌∷◌, length, get_or, take, drop, Some, None, Option, sym, refl, ap, ◌∙◌, arith, length-drop, drop-cons}
 use Rattle.operand.specs.declared.edition.Edition.{Edition}
 use Rattle.operand.specs.declared.operand.Operand.{Operand}
 use Rattle.image.specs.declared.constant.Constant.{Constant}
@@ -25,7 +25,8 @@ constants_more e ws i h =
     ∙ (three e (get_or ws (3 * i) 0) (get_or ws (suc (3 * i)) 0) (get_or ws (suc (suc (3 * i))) 0) (drop (suc (suc (suc (3 * i)))) ws)
     ∙ (λ j. constant_decoded e (get_or ws (3 * i) 0) (get_or ws (one j) 0) (get_or ws (two j) 0) ∷ constants_of e (drop (next j) ws)))
 
-short : (e : Edition) (ws : List ℕ) → length ws < 3 → constants_of e ws ≡ []
+-- less than one constant
+pub short : (e : Edition) (ws : List ℕ) → length ws < 3 → constants_of e ws ≡ []
 unfolding constants_of
 short e [] h = refl
 short e (a ∷ []) h = refl
@@ -44,13 +45,25 @@ behind last (Some c) cs p = by (constant_fits last c.operand)
     by true = refl
     by false = refl
 
-pub turn : (e : Edition) (ws : List ℕ) (last : Option Operand) (i : ℕ) → i < length ws / 3 → (r : Option Operand) → r ≡ allowed last (constant_at e ws i)
-    → fault_behind r (constants_from e ws (i + 1)) i ≡ constant_fault last (constants_from e ws i) i
-turn e ws last i h r q =
-    ap (λ (o : Option Operand). fault_behind o (constants_from e ws (i + 1)) i) q
-    ∙ (behind last (constant_at e ws i) (constants_from e ws (i + 1)) i
-    ∙ ap (λ (cs : List (Option Constant)). constant_fault last cs i) (sym (constants_more e ws i h)))
+-- the first constant may stand behind the last one, or not
+pub turn : (last : Option Operand) (xs ys : List (Option Constant)) (x : Option Constant) (p : ℕ) (r : Option Operand) → xs ≡ x ∷ ys → r ≡ allowed last x
+    → fault_behind r ys p ≡ constant_fault last xs p
+turn last xs ys x p r h q =
+    ap (λ (o : Option Operand). fault_behind o ys p) q ∙ (behind last x ys p ∙ ap (λ (cs : List (Option Constant)). constant_fault last cs p) (sym h))
 
-pub ended : (e : Edition) (ws : List ℕ) (last : Option Operand) (i : ℕ) → i ≡ length ws / 3 → None ≡ constant_fault last (constants_from e ws i) i
+-- none is left
+pub ended : (last : Option Operand) (xs : List (Option Constant)) (p : ℕ) → xs ≡ [] → None ≡ constant_fault last xs p
 unfolding constant_fault
-ended e ws last i q = ap (λ (cs : List (Option Constant)). constant_fault last cs i) (sym (constants_all e ws i q))
+ended last xs p h = ap (λ (cs : List (Option Constant)). constant_fault last cs p) (sym h)
+
+-- the first constant, and those behind it
+pub constants_next : (e : Edition) (ws triple rest : List ℕ) (c : Option Constant) → triple ≡ take 3 ws → rest ≡ drop 3 ws → length rest + 3 ≡ length ws
+    → c ≡ constant_decoded e (get_or triple 0 0) (get_or triple 1 0) (get_or triple 2 0) → constants_of e ws ≡ c ∷ constants_of e rest
+unfolding constants_of
+constants_next e [] triple rest c p r l q = absurd (omega arith)
+constants_next e (a ∷ []) triple rest c p r l q = absurd (omega arith)
+constants_next e (a ∷ b ∷ []) triple rest c p r l q = absurd (omega arith)
+constants_next e (a ∷ b ∷ d ∷ ws) triple rest c p r l q =
+    let first : constant_decoded e (get_or triple 0 0) (get_or triple 1 0) (get_or triple 2 0) ≡ constant_decoded e a b d = ap (λ (xs : List ℕ). constant_decoded e (get_or xs 0 0) (get_or xs 1 0) (get_or xs 2 0)) p in
+    let one = q ∙ first in
+    λ j. sym one j ∷ constants_of e (sym r j)

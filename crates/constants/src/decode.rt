@@ -1,6 +1,7 @@
 // From the three words of a constant to the constant.
-ghost use Rattle.std.specs.Prelude.{◌≡◌, ◌+◌, ◌*◌};
-ghost use Rattle.constants.specs.Decoded.{word_value, double_value, word_constant, double_constant, constant_decoded};
+ghost use Rattle.std.specs.Iterator.{YieldsFirst, at_most};
+ghost use Rattle.std.specs.Prelude.{◌≡◌, ◌/◌, length};
+ghost use Rattle.constants.specs.Decoded.{word_value, double_value, word_constant, double_constant, constant_decoded, constants_of};
 ghost use Rattle.constants.specs.Lawful.{Decodes};
 
 use image::constant::Constant;
@@ -12,46 +13,31 @@ use operand::operand::{Operand, decode};
 pub fn signed_word(bits: u16) -> i32
     ensures { result ≡ word_value bits }
 {
-    if bits < 0x8000 {
-        bits as i32
-    } else {
-        bits as i32 - 0x1_0000
-    }
+    bits.cast_signed() as i32
 }
 
 // The value of 32 bits in two's complement.
 fn signed_double(bits: u32) -> i32
     ensures { result ≡ double_value bits }
 {
-    if bits < 0x8000_0000 {
-        bits as i32
-    } else {
-        (bits as i64 - 0x1_0000_0000) as i32
-    }
+    bits.cast_signed()
 }
 
 // A word: its high word is 0, and 8000h is no lawful value.
 fn word_at(operand: Operand, low: u16, high: u16) -> Option<Constant>
     ensures { result ≡ word_constant operand low high }
 {
-    if high == 0 && low != 0x8000 {
-        Some(Constant {
-            operand,
-            value: signed_word(low),
-        })
-    } else {
-        None
-    }
+    (high == 0 && low != 0x8000).then_some(Constant {
+        operand,
+        value: signed_word(low),
+    })
 }
 
 // A double: 8000 0000h is no lawful value.
 fn double_at(operand: Operand, low: u16, high: u16) -> Option<Constant>
     ensures { result ≡ double_constant operand low high }
 {
-    if low == 0 && high == 0x8000 {
-        return None;
-    }
-    Some(Constant {
+    (low != 0 || high != 0x8000).then_some(Constant {
         operand,
         value: signed_double(0x1_0000 * high as u32 + low as u32),
     })
@@ -60,9 +46,7 @@ fn double_at(operand: Operand, low: u16, high: u16) -> Option<Constant>
 fn constant_of(edition: Edition, code: u16, low: u16, high: u16) -> Option<Constant>
     ensures { result ≡ constant_decoded edition code low high }
 {
-    let Some(operand) = decode(edition, code) else {
-        return None;
-    };
+    let operand = decode(edition, code)?;
     match operand.kind {
         Kind::ConstantWord => word_at(operand, low, high),
         Kind::ConstantDouble => double_at(operand, low, high),
@@ -76,4 +60,26 @@ pub fn decode_constant(edition: Edition, code: u16, low: u16, high: u16) -> Opti
     ensures exact { Decodes edition code low high result }
 {
     constant_of(edition, code, low, high)
+}
+
+// An edition and the words of a list's constants, three words each: operand code, low word, high word.
+// As an iterator it gives each constant, or none in its place where the words are those of none; words short of three at the end are left out.
+#[derive(Clone, Copy)]
+pub struct Constants<'a> {
+    pub edition: Edition,
+    pub words: &'a [u16],
+}
+
+impl<'a> Iterator for Constants<'a> {
+    type Item = Option<Constant>;
+
+    ghost next_gives = { YieldsFirst (λ s. constants_of s.edition s.words.now) };
+
+    ghost remaining = { λ s. at_most (length s.words.now / 3) };
+
+    fn next(&mut self) -> Option<Option<Constant>> {
+        let (triple, rest) = self.words.split_first_chunk::<3>()?;
+        self.words = rest;
+        Some(decode_constant(self.edition, triple[0], triple[1], triple[2]))
+    }
 }

@@ -5,8 +5,10 @@ ghost use Rattle.std.specs.Prelude.{◌≡◌};
 ghost use Rattle.decode.specs.Decoded.{alone, assign_item, operand_item, pin_item, kind_item, call_decoded, mark_decoded, word_decoded, nameless_decoded, item_decoded, Decodes};
 ghost use Rattle.operand.specs.Codes.{decoded};
 
+pub mod items;
+
 use catalogue::Block;
-use item::item::{Item, NO_NUMBER};
+use item::item::{Item, NO_NUMBER, Nameless};
 use item::mnemonic::{Form, Mnemonic};
 use operand::edition::Edition;
 use operand::operand::decode;
@@ -15,38 +17,28 @@ use operand::operand::decode;
 fn plain(item: Item, argument: u16) -> Option<Item>
     ensures { result ≡ alone item argument }
 {
-    if argument == 0 { Some(item) } else { None }
+    (argument == 0).then_some(item)
 }
 
 fn assignment(edition: Edition, form: Form, argument: u16) -> Option<Item>
     ensures { result ≡ assign_item form (decoded edition argument) }
 {
-    match decode(edition, argument) {
-        Some(operand) => Some(Item::Assign(form, operand)),
-        None => None,
-    }
+    decode(edition, argument).map(|operand| Item::Assign(form, operand))
 }
 
 fn call(argument: u16) -> Option<Item>
     ensures { result ≡ call_decoded argument }
 {
-    if argument < NO_NUMBER {
-        Some(Item::Call(Some(argument)))
-    } else if argument == NO_NUMBER {
-        Some(Item::Call(None))
-    } else {
-        None
+    match argument {
+        NO_NUMBER => Some(Item::Call(None)),
+        _ => (argument < NO_NUMBER).then_some(Item::Call(Some(argument))),
     }
 }
 
 fn mark(argument: u16) -> Option<Item>
     ensures { result ≡ mark_decoded argument }
 {
-    if argument < 1000 {
-        Some(Item::Mark(argument))
-    } else {
-        None
-    }
+    (argument < 1000).then_some(Item::Mark(argument))
 }
 
 // An item that begins with a mnemonic.
@@ -73,29 +65,19 @@ fn written(edition: Edition, mnemonic: Mnemonic, argument: u16) -> Option<Item>
 fn nameless(edition: Edition, number: u16, argument: u16) -> Option<Item>
     ensures { result ≡ nameless_decoded edition number argument }
 {
-    match number {
-        8 => match decode(edition, argument) {
-            Some(operand) => Some(Item::Operand(operand)),
-            None => None,
-        },
-        41 => match Block::numbered(edition, argument) {
-            Some(block) => Some(Item::Kind(block)),
-            None => None,
-        },
-        42 => match decode(edition, argument) {
-            Some(operand) => Some(Item::Pin(operand)),
-            None => None,
-        },
-        _ => None,
+    match Nameless::try_from(number).ok()? {
+        Nameless::Operand => decode(edition, argument).map(Item::Operand),
+        Nameless::Kind => Block::numbered(edition, argument).map(Item::Kind),
+        Nameless::Pin => decode(edition, argument).map(Item::Pin),
     }
 }
 
 fn item_of(edition: Edition, number: u16, argument: u16) -> Option<Item>
     ensures { result ≡ item_decoded edition number argument }
 {
-    match Mnemonic::numbered(number) {
-        Some(mnemonic) => written(edition, mnemonic, argument),
-        None => nameless(edition, number, argument),
+    match Mnemonic::try_from(number) {
+        Ok(mnemonic) => written(edition, mnemonic, argument),
+        Err(_) => nameless(edition, number, argument),
     }
 }
 

@@ -2,7 +2,7 @@
 use Rattle.std.specs.Prelude.{ℕ, ◌/◌, min, cond, ◌&&◌, List, [], ◌∷◌, ◌++◌, length, take, drop, Some, None, codes, Option, nat_le, nat_lt}
 use Rattle.operand.specs.declared.edition.Edition.TheVariants.{Series90}
 use Rattle.item.specs.declared.item.Item.{Item}
-use Rattle.rule.specs.Words.{item_at}
+use Rattle.decode.specs.Words.{item_at}
 use Rattle.script.specs.Texts.{item_text}
 use Rattle.token.specs.Runs.{run_length}
 use Rattle.told.specs.declared.Told.{Told}

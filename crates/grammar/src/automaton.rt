@@ -39,11 +39,7 @@ pub enum Grammar {
 fn wait(left: usize) -> Grammar
     ensures { result ≡ waiting left }
 {
-    if left == 0 {
-        Grammar::Between
-    } else {
-        Grammar::Pins(left - 1)
-    }
+    left.checked_sub(1).map_or(Grammar::Between, Grammar::Pins)
 }
 
 fn begin(item: Item) -> Option<Grammar>
@@ -73,12 +69,10 @@ fn term(depth: usize, side: Side, item: Item) -> Option<Grammar>
 fn join(depth: usize, side: Side) -> Option<Grammar>
     ensures { result ≡ joins depth side }
 {
-    if depth > 0 {
-        return Some(Grammar::Term(depth, side));
-    }
-    match side {
-        Side::First | Side::Joined => Some(Grammar::Term(0, Side::Joined)),
-        Side::Compared => None,
+    match (depth, side) {
+        (0, Side::Compared) => None,
+        (0, _) => Some(Grammar::Term(0, Side::Joined)),
+        (_, _) => Some(Grammar::Term(depth, side)),
     }
 }
 
@@ -86,12 +80,9 @@ fn join(depth: usize, side: Side) -> Option<Grammar>
 fn compare(depth: usize, side: Side) -> Option<Grammar>
     ensures { result ≡ compares depth side }
 {
-    if depth > 0 {
-        return None;
-    }
-    match side {
-        Side::First => Some(Grammar::Term(0, Side::Compared)),
-        _ => None,
+    match (depth, side) {
+        (0, Side::First) => Some(Grammar::Term(0, Side::Compared)),
+        (_, _) => None,
     }
 }
 
@@ -99,11 +90,8 @@ fn compare(depth: usize, side: Side) -> Option<Grammar>
 fn close(depth: usize, side: Side, idle: bool) -> Option<Grammar>
     ensures { result ≡ closes depth side idle }
 {
-    if depth == 0 || idle {
-        None
-    } else {
-        Some(Grammar::After(depth - 1, side, false))
-    }
+    let outer = depth.checked_sub(1)?;
+    (!idle).then_some(Grammar::After(outer, side, false))
 }
 
 fn go_on(depth: usize, side: Side, idle: bool, item: Item) -> Option<Grammar>
@@ -114,16 +102,8 @@ fn go_on(depth: usize, side: Side, idle: bool, item: Item) -> Option<Grammar>
         Item::Close => close(depth, side, idle),
         Item::Operator(_) => join(depth, side),
         Item::Compare(_) => compare(depth, side),
-        Item::Assign(_, _) => if depth == 0 {
-            Some(Grammar::Assigned)
-        } else {
-            None
-        },
-        Item::EndIf => if depth == 0 {
-            Some(Grammar::Between)
-        } else {
-            None
-        },
+        Item::Assign(_, _) => (depth == 0).then_some(Grammar::Assigned),
+        Item::EndIf => (depth == 0).then_some(Grammar::Between),
         _ => None,
     }
 }
@@ -202,9 +182,6 @@ impl Rule for Grammar {
     }
 
     fn ends(self) -> bool {
-        match self {
-            Grammar::Done => true,
-            _ => false,
-        }
+        matches!(self, Grammar::Done)
     }
 }

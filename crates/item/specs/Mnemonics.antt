@@ -1,7 +1,8 @@
 -- The words that begin an item in a text, each with the number of its items.
-use Rattle.std.specs.Prelude.{ℕ, cond, List, Some, None, codes, Option, ◌==◌}
+use Rattle.std.specs.Prelude.{◌≡◌, ℕ, cond, List, Some, None, codes, Option, Result, ◌==◌, ok_or}
 use Rattle.item.specs.declared.mnemonic.Mnemonic.{Mnemonic}
 use Rattle.item.specs.declared.mnemonic.Mnemonic.TheVariants.{Nop, Start, Open, Close, Operator, Compare, Assign, EndIf, Call, Direct, Mark, End}
+use Rattle.item.specs.declared.mnemonic.UnknownMnemonic.{UnknownMnemonic}
 use Rattle.item.specs.declared.mnemonic.Turn.TheVariants as Turn
 use Rattle.item.specs.declared.mnemonic.Operator.TheVariants as Op
 use Rattle.item.specs.declared.mnemonic.Comparison.TheVariants as Than
@@ -81,6 +82,10 @@ mnemonic_numbered n =
     cond (n == 50) (Some Mark) (
     cond (n == 51) (Some End) (
     None))))))))))))))))))))))))))))))))))
+
+-- the mnemonic with this number, or the number where no mnemonic has it
+abbrev pub IsMnemonicNumbered : ℕ → Result Mnemonic UnknownMnemonic → Type 0
+IsMnemonicNumbered n r = r ≡ ok_or (mnemonic_numbered n) (record { 0 = n })
 
 abbrev pub name_of : Mnemonic → List ℕ
 name_of Nop = codes "NOP"

@@ -1,6 +1,6 @@
 // The items of an instruction list, with number and argument.
 ghost use Rattle.std.specs.Prelude.{◌≡◌, ◌≤◌};
-ghost use Rattle.item.specs.Items.{number_of, argument_of, item_cells};
+ghost use Rattle.item.specs.Items.{number_of, argument_of, item_cells, nameless_number, IsNamelessNumbered};
 
 use crate::mnemonic::{Comparison, Form, Mnemonic, Operator, Turn};
 use catalogue::Block;
@@ -9,7 +9,19 @@ use operand::operand::Operand;
 // The argument of a call without a number.
 pub const NO_NUMBER: u16 = 1000;
 
-#[derive(Clone, Copy)]
+// What a text writes without a mnemonic: an operand, a block's name or a pin.
+#[derive(Clone, Copy, Debug, PartialEq, Eq)]
+pub enum Nameless {
+    Operand = 8,
+    Kind = 41,
+    Pin = 42,
+}
+
+// A number that no item without a mnemonic has.
+#[derive(Clone, Copy, Debug, PartialEq, Eq)]
+pub struct UnknownNameless(pub u16);
+
+#[derive(Clone, Copy, Debug, PartialEq, Eq)]
 pub enum Item {
     Nop,
     Start(Turn),
@@ -30,6 +42,29 @@ pub enum Item {
     End,
 }
 
+impl Nameless {
+    pub fn number(self) -> u16
+        ensures { result ≡ nameless_number self }
+    {
+        self as u16
+    }
+}
+
+impl TryFrom<u16> for Nameless {
+    type Error = UnknownNameless;
+
+    ghost try_from_gives = { IsNamelessNumbered };
+
+    fn try_from(number: u16) -> Result<Nameless, UnknownNameless> {
+        match number {
+            8 => Ok(Nameless::Operand),
+            41 => Ok(Nameless::Kind),
+            42 => Ok(Nameless::Pin),
+            _ => Err(UnknownNameless(number)),
+        }
+    }
+}
+
 impl Item {
     pub fn number(self) -> u16
         ensures { result ≡ number_of self }
@@ -39,14 +74,14 @@ impl Item {
             Item::Start(turn) => Mnemonic::Start(turn).number(),
             Item::Open(turn) => Mnemonic::Open(turn).number(),
             Item::Close => Mnemonic::Close.number(),
-            Item::Operand(_) => 8,
+            Item::Operand(_) => Nameless::Operand.number(),
             Item::Operator(operator) => Mnemonic::Operator(operator).number(),
             Item::Compare(comparison) => Mnemonic::Compare(comparison).number(),
             Item::Assign(form, _) => Mnemonic::Assign(form).number(),
             Item::EndIf => Mnemonic::EndIf.number(),
             Item::Call(_) => Mnemonic::Call.number(),
-            Item::Kind(_) => 41,
-            Item::Pin(_) => 42,
+            Item::Kind(_) => Nameless::Kind.number(),
+            Item::Pin(_) => Nameless::Pin.number(),
             Item::Direct(_) => Mnemonic::Direct.number(),
             Item::Mark(_) => Mnemonic::Mark.number(),
             Item::End => Mnemonic::End.number(),
@@ -59,8 +94,7 @@ impl Item {
         match self {
             Item::Operand(operand) | Item::Assign(_, operand) | Item::Pin(operand) =>
                 operand.code(),
-            Item::Call(Some(number)) => number,
-            Item::Call(None) => NO_NUMBER,
+            Item::Call(number) => number.unwrap_or(NO_NUMBER),
             Item::Kind(block) => block.number(),
             Item::Direct(word) => word,
             Item::Mark(mark) => mark,

@@ -1,16 +1,16 @@
 // The words that begin an item in a text, and the item's number for each.
 ghost use Rattle.std.specs.Prelude.{◌≡◌};
-ghost use Rattle.item.specs.Mnemonics.{number_of, mnemonic_numbered, name_of};
+ghost use Rattle.item.specs.Mnemonics.{number_of, IsMnemonicNumbered, name_of};
 
 // What turns the term on its right: nothing, N or minus.
-#[derive(Clone, Copy)]
+#[derive(Clone, Copy, Debug, PartialEq, Eq)]
 pub enum Turn {
     Plain,
     Not,
     Minus,
 }
 
-#[derive(Clone, Copy)]
+#[derive(Clone, Copy, Debug, PartialEq, Eq)]
 pub enum Operator {
     And,
     AndNot,
@@ -24,7 +24,7 @@ pub enum Operator {
     DivideMinus,
 }
 
-#[derive(Clone, Copy)]
+#[derive(Clone, Copy, Debug, PartialEq, Eq)]
 pub enum Comparison {
     Greater,
     Less,
@@ -35,7 +35,7 @@ pub enum Comparison {
 }
 
 // How an assignment stores the sentence's value.
-#[derive(Clone, Copy)]
+#[derive(Clone, Copy, Debug, PartialEq, Eq)]
 pub enum Form {
     Plain,
     Not,
@@ -44,7 +44,7 @@ pub enum Form {
     Reset,
 }
 
-#[derive(Clone, Copy)]
+#[derive(Clone, Copy, Debug, PartialEq, Eq)]
 pub enum Mnemonic {
     Nop,
     Start(Turn),
@@ -59,6 +59,10 @@ pub enum Mnemonic {
     Mark,
     End,
 }
+
+// A number that no item with a mnemonic has.
+#[derive(Clone, Copy, Debug, PartialEq, Eq)]
+pub struct UnknownMnemonic(pub u16);
 
 impl Mnemonic {
     pub fn number(self) -> u16
@@ -102,50 +106,6 @@ impl Mnemonic {
         }
     }
 
-    // The mnemonic of the items with that number, if they have one.
-    pub fn numbered(number: u16) -> Option<Mnemonic>
-        ensures { result ≡ mnemonic_numbered number }
-    {
-        let mnemonic = match number {
-            0 => Mnemonic::Nop,
-            1 => Mnemonic::Start(Turn::Plain),
-            2 => Mnemonic::Start(Turn::Not),
-            3 => Mnemonic::Start(Turn::Minus),
-            4 => Mnemonic::Open(Turn::Plain),
-            5 => Mnemonic::Open(Turn::Not),
-            6 => Mnemonic::Open(Turn::Minus),
-            7 => Mnemonic::Close,
-            10 => Mnemonic::Operator(Operator::And),
-            11 => Mnemonic::Operator(Operator::AndNot),
-            12 => Mnemonic::Operator(Operator::Or),
-            13 => Mnemonic::Operator(Operator::OrNot),
-            14 => Mnemonic::Operator(Operator::Add),
-            15 => Mnemonic::Operator(Operator::Subtract),
-            16 => Mnemonic::Operator(Operator::Multiply),
-            17 => Mnemonic::Operator(Operator::MultiplyMinus),
-            18 => Mnemonic::Operator(Operator::Divide),
-            19 => Mnemonic::Operator(Operator::DivideMinus),
-            20 => Mnemonic::Compare(Comparison::Greater),
-            21 => Mnemonic::Compare(Comparison::Less),
-            22 => Mnemonic::Compare(Comparison::AtLeast),
-            23 => Mnemonic::Compare(Comparison::Equal),
-            24 => Mnemonic::Compare(Comparison::Unequal),
-            25 => Mnemonic::Compare(Comparison::AtMost),
-            30 => Mnemonic::Assign(Form::Plain),
-            31 => Mnemonic::Assign(Form::Not),
-            32 => Mnemonic::Assign(Form::Minus),
-            33 => Mnemonic::Assign(Form::Set),
-            34 => Mnemonic::Assign(Form::Reset),
-            35 => Mnemonic::EndIf,
-            40 => Mnemonic::Call,
-            43 => Mnemonic::Direct,
-            50 => Mnemonic::Mark,
-            51 => Mnemonic::End,
-            _ => return None,
-        };
-        Some(mnemonic)
-    }
-
     pub fn name(self) -> &'static str
         ensures { result.now ≡ name_of self }
     {
@@ -184,6 +144,52 @@ impl Mnemonic {
             Mnemonic::Direct => "#",
             Mnemonic::Mark => "MA",
             Mnemonic::End => "!PE",
+        }
+    }
+}
+
+impl TryFrom<u16> for Mnemonic {
+    type Error = UnknownMnemonic;
+
+    ghost try_from_gives = { IsMnemonicNumbered };
+
+    fn try_from(number: u16) -> Result<Mnemonic, UnknownMnemonic> {
+        match number {
+            0 => Ok(Mnemonic::Nop),
+            1 => Ok(Mnemonic::Start(Turn::Plain)),
+            2 => Ok(Mnemonic::Start(Turn::Not)),
+            3 => Ok(Mnemonic::Start(Turn::Minus)),
+            4 => Ok(Mnemonic::Open(Turn::Plain)),
+            5 => Ok(Mnemonic::Open(Turn::Not)),
+            6 => Ok(Mnemonic::Open(Turn::Minus)),
+            7 => Ok(Mnemonic::Close),
+            10 => Ok(Mnemonic::Operator(Operator::And)),
+            11 => Ok(Mnemonic::Operator(Operator::AndNot)),
+            12 => Ok(Mnemonic::Operator(Operator::Or)),
+            13 => Ok(Mnemonic::Operator(Operator::OrNot)),
+            14 => Ok(Mnemonic::Operator(Operator::Add)),
+            15 => Ok(Mnemonic::Operator(Operator::Subtract)),
+            16 => Ok(Mnemonic::Operator(Operator::Multiply)),
+            17 => Ok(Mnemonic::Operator(Operator::MultiplyMinus)),
+            18 => Ok(Mnemonic::Operator(Operator::Divide)),
+            19 => Ok(Mnemonic::Operator(Operator::DivideMinus)),
+            20 => Ok(Mnemonic::Compare(Comparison::Greater)),
+            21 => Ok(Mnemonic::Compare(Comparison::Less)),
+            22 => Ok(Mnemonic::Compare(Comparison::AtLeast)),
+            23 => Ok(Mnemonic::Compare(Comparison::Equal)),
+            24 => Ok(Mnemonic::Compare(Comparison::Unequal)),
+            25 => Ok(Mnemonic::Compare(Comparison::AtMost)),
+            30 => Ok(Mnemonic::Assign(Form::Plain)),
+            31 => Ok(Mnemonic::Assign(Form::Not)),
+            32 => Ok(Mnemonic::Assign(Form::Minus)),
+            33 => Ok(Mnemonic::Assign(Form::Set)),
+            34 => Ok(Mnemonic::Assign(Form::Reset)),
+            35 => Ok(Mnemonic::EndIf),
+            40 => Ok(Mnemonic::Call),
+            43 => Ok(Mnemonic::Direct),
+            50 => Ok(Mnemonic::Mark),
+            51 => Ok(Mnemonic::End),
+            _ => Err(UnknownMnemonic(number)),
         }
     }
 }

@@ -3,9 +3,8 @@ use Rattle.std.proofs.Common.{◌≡◌, ℕ, zero, suc, ◌+◌, ◌/◌, List,
 use Rattle.operand.specs.declared.edition.Edition.{Edition}
 use Rattle.item.specs.declared.item.Item.{Item}
 use Rattle.image.specs.declared.constant.Constant.{Constant}
-use Rattle.rule.specs.Automata.{items_of}
-use Rattle.rule.specs.Words.{item_at, items_from}
-use Rattle.rule.proofs.Passing.{items_more, items_all}
+use Rattle.decode.specs.Words.{items_of, item_at, items_from}
+use Rattle.decode.proofs.Places.{items_more, items_all}
 use Rattle.constants.specs.Decoded.{constants_of}
 use Rattle.constants.specs.Lawful.{constant_at, constants_from}
 use Rattle.constants.proofs.Passing.{constants_more, constants_all}

@@ -2,11 +2,10 @@
 use Rattle.std.specs.Prelude.{ℕ, zero, suc, List, [], ◌∷◌, ◌++◌, Some, None, Option}
 use Rattle.item.specs.declared.item.Item.{Item}
 use Rattle.image.specs.declared.constant.Constant.{Constant}
-use Rattle.rule.specs.Automata.{items_of}
+use Rattle.decode.specs.Words.{items_of, item_at}
 use Rattle.constants.specs.Decoded.{constants_of}
 use Rattle.script.specs.Texts.{item_text, constant_text}
 use Rattle.operand.specs.declared.edition.Edition.{Edition}
-use Rattle.rule.specs.Words.{item_at}
 use Rattle.constants.specs.Lawful.{constant_at}
 use Rattle.checker.specs.Verdict.{Parts}
 

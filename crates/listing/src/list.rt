@@ -6,8 +6,7 @@ ghost use Rattle.listing.specs.Lines.{line_of, item_line, constant_line, item_li
 ghost use Rattle.listing.specs.Listed.{answered, due_for, fitted, left_by, text_of, Opened};
 ghost use Rattle.constants.specs.Decoded.{constants_of};
 ghost use Rattle.constants.specs.Lawful.{constant_at};
-ghost use Rattle.rule.specs.Automata.{items_of};
-ghost use Rattle.rule.specs.Words.{item_at};
+ghost use Rattle.decode.specs.Words.{items_of, item_at};
 
 use crate::refusal::ListRefusal;
 use checker::check::judge_known;

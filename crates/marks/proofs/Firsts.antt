@@ -1,5 +1,6 @@
 -- The first place where a test holds.
-use Rattle.std.proofs.Common.{◌≡◌, ℕ, zero, suc, ◌+◌, ◌-◌, ◌<◌, ◌≤◌, Bool, true, false, cond, eqb, leb, Some, None, Option, sym, refl, ap, ◌∙◌, subst, arith}
+use Rattle.std.proofs.Common.{◌≡◌, ℕ, zero, suc, ◌+◌, ◌-◌, ◌<◌, ◌≤◌, Bool, true, false, cond, eqb, leb, Some, None, Option, sym, refl, ap, ◌∙◌, subst, ⊎_elim, arith, MatchOption}
+use Rattle.std.proofs.lemmas.Bool.{cases_lt}
 use Rattle.std.proofs.lemmas.Bool.Decides.{nat_tests}
 use Rattle.marks.specs.Places.{first_of, first_place, First}
 
@@ -12,14 +13,7 @@ here_or_later : {Q : Type 0} (p k : ℕ) → p ≤ k → (k ≡ p → Q) → (p 
 here_or_later p k h same more = by_place p k h same more (eqb k p) refl
 
 module _ (test : ℕ → Bool) (end : ℕ) where
-  -- one place more
-  pub turn : (i : ℕ) → i < end → (b : Bool) → b ≡ test i → cond b (Some i) (first_place test (i + 1) end) ≡ first_place test i end
-  unfolding first_of
-  turn i h b q =
-      let more : end - i ≡ suc (end - (i + 1)) = omega arith in
-      ap (λ (c : Bool). cond c (Some i) (first_place test (i + 1) end)) q ∙ ap (λ (n : ℕ). first_of test n i) (sym more)
-
-  pub ended : (i : ℕ) → end ≤ i → None ≡ first_place test i end
+  ended : (i : ℕ) → end ≤ i → None ≡ first_place test i end
   unfolding first_of
   ended i h = let none : 0 ≡ end - i = omega arith in ap (λ (n : ℕ). first_of test n i) none
 
@@ -54,3 +48,18 @@ module _ (test : ℕ → Bool) (end : ℕ) where
       by : (b : Bool) → leb end p ≡ b → First test p end (first_place test p end)
       by true t = past p (grind (arith, nat_tests)) (first_place test p end) (sym (ended p (grind (arith, nat_tests))))
       by false t = let same : p + (end - p) ≡ end = grind (arith, nat_tests) in subst (λ (n : ℕ). First test p n (first_place test p end)) same (exact_of (end - p) p)
+
+  -- what a walk over the places found is that answer
+  pub is_first : (p n : ℕ) (r : Option ℕ) → n ≡ end
+      → MatchOption r ((k : ℕ) → p ≤ k → k < n → test k ≡ false) (λ q. (p ≤ q) × (q < n) × (test q ≡ true) × ((k : ℕ) → p ≤ k → k < q → test k ≡ false))
+      → r ≡ first_place test p end
+  is_first p n None same h = by (first_place test p end) (exact p)
+    where
+      by : (o : Option ℕ) → First test p end o → None ≡ o
+      by None e = refl
+      by (Some q) (a, b, c, d) = absurd (never q q (h q a (omega arith)) refl c)
+  is_first p n (Some q) same (a, b, c, d) = by (first_place test p end) (exact p)
+    where
+      by : (o : Option ℕ) → First test p end o → Some q ≡ o
+      by None e = absurd (e q a (omega arith) c)
+      by (Some k) (u, v, w, x) = ⊎_elim (λ l. absurd (x q a l c)) (λ l. ⊎_elim (λ m. absurd (never k k (d k u m) refl w)) (λ m. ap Some (omega arith)) (cases_lt k q)) (cases_lt q k)

@@ -7,7 +7,7 @@ use Rattle.item.specs.Items.{number_of}
 use Rattle.decode.specs.Decoded.{item_decoded}
 use Rattle.decode.proofs.Exact.{decoded_exactly}
 use Rattle.std.proofs.lemmas.Bool.{eqb-true}
-use Rattle.rule.specs.Words.{item_at}
+use Rattle.decode.specs.Words.{item_at}
 use Rattle.marks.specs.Places.{First}
 use Rattle.marks.specs.Marks.{marks, is_mark, mark_at, next_mark, Next}
 use Rattle.marks.proofs.Firsts.{exact}

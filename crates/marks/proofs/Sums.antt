@@ -1,21 +1,26 @@
--- The sum of cells, word by word.
-use Rattle.std.proofs.Common.{◌≡◌, ℕ, suc, ◌+◌, ◌*◌, ◌/◌, ◌%◌, ◌<◌, min, List, length, get_or, ap, ◌∙◌, arith}
+-- The sum of cells, item by item.
+use Rattle.std.proofs.Common.{◌≡◌, ℕ, zero, suc, ◌+◌, ◌*◌, ◌<◌, List, [], get_or, drop, refl, ap, ◌∙◌, arith, get_or-take, get_or-drop}
+use Rattle.std.specs.Simd.{first_chunks}
 use Rattle.operand.specs.declared.edition.Edition.{Edition}
-use Rattle.decode.specs.Decoded.{item_decoded}
-use Rattle.marks.specs.Cells.{cells_asked, cells_before, cells_until}
+use Rattle.decode.specs.Words.{item_at}
+use Rattle.marks.specs.Cells.{cells_asked, cells_before}
 
-pub none_yet : (e : Edition) (ws : List ℕ) → 0 ≡ cells_until e ws 0
-unfolding cells_before
-none_yet e ws = let none : 0 ≡ min (1 / 2) (length ws / 2) = omega arith in ap (cells_before e ws) none
+-- the number of the item at a place, in the words as pairs
+pub number_at : (k p : ℕ) (ws : List ℕ) → p < k → get_or (get_or (first_chunks 2 k ws) p []) 0 0 ≡ get_or ws (2 * p) 0
+number_at zero p ws h = absurd (omega arith)
+number_at (suc k) zero ws h = get_or-take 2 ws 0 0 (omega arith)
+number_at (suc k) (suc p) ws h =
+    let on : 2 + 2 * p ≡ 2 * suc p = omega arith in
+    number_at k p (drop 2 ws) (omega arith) ∙ (get_or-drop 2 ws (2 * p) 0 ∙ ap (λ n. get_or ws n 0) on)
 
--- an item more: its number stands at an even index
-pub one_more : (e : Edition) (ws : List ℕ) (i : ℕ) → i % 2 ≡ 0 → i + 1 < length ws
-    → cells_until e ws i + cells_asked (item_decoded e (get_or ws i 0) (get_or ws (i + 1) 0)) ≡ cells_until e ws (i + 1)
+-- an item more
+pub none_yet : (e : Edition) (ws : List ℕ) → 0 ≡ cells_before e ws 0
 unfolding cells_before
-one_more e ws i h l =
-    let here : min ((i + 1) / 2) (length ws / 2) ≡ i / 2 = omega arith in
-    let next : suc (i / 2) ≡ min ((i + 1 + 1) / 2) (length ws / 2) = omega arith in
-    let even : i ≡ 2 * (i / 2) = omega arith in
-    ap (λ (n : ℕ). cells_before e ws n + cells_asked (item_decoded e (get_or ws i 0) (get_or ws (i + 1) 0))) here
-    ∙ (ap (λ (n : ℕ). cells_before e ws (i / 2) + cells_asked (item_decoded e (get_or ws n 0) (get_or ws (n + 1) 0))) even
-    ∙ ap (cells_before e ws) next)
+none_yet e ws = refl
+
+pub one_more : (e : Edition) (ws : List ℕ) (p sum cells : ℕ) → sum ≡ cells_before e ws p → cells ≡ cells_asked (item_at e ws p) → sum + cells ≡ cells_before e ws (p + 1)
+unfolding cells_before
+one_more e ws p sum cells h q =
+    let on : suc p ≡ p + 1 = omega arith in
+    let s : sum + cells ≡ cells_before e ws p + cells_asked (item_at e ws p) = omega arith in
+    s ∙ ap (cells_before e ws) on

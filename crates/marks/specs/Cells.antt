@@ -1,9 +1,9 @@
 -- The history cells of the calls in a list.
-use Rattle.std.specs.Prelude.{ℕ, zero, suc, ◌+◌, ◌/◌, min, List, length, Some, None, Option}
+use Rattle.std.specs.Prelude.{ℕ, zero, suc, ◌+◌, ◌/◌, List, length, Some, None, Option}
 use Rattle.operand.specs.declared.edition.Edition.{Edition}
 use Rattle.item.specs.declared.item.Item.{Item}
 use Rattle.item.specs.Items.{item_cells}
-use Rattle.rule.specs.Words.{item_at}
+use Rattle.decode.specs.Words.{item_at}
 
 -- an unknown item has no cells
 abbrev pub cells_asked : Option Item → ℕ
@@ -14,10 +14,6 @@ cells_asked (Some i) = item_cells i
 unfoldable pub cells_before : Edition → List ℕ → ℕ → ℕ
 cells_before e ws zero = 0
 cells_before e ws (suc p) = cells_before e ws p + cells_asked (item_at e ws p)
-
--- the cells of the items whose number stands below index i of the words
-abbrev pub cells_until : Edition → List ℕ → ℕ → ℕ
-cells_until e ws i = cells_before e ws (min ((i + 1) / 2) (length ws / 2))
 
 -- the cells of all calls
 abbrev pub all_cells : Edition → List ℕ → ℕ

@@ -5,7 +5,7 @@ use Rattle.catalogue.specs.declared.Block.TheVariants.{Esv, Moa, RisingEdge, Ctu
 use Rattle.item.specs.declared.item.Item.{Item}
 use Rattle.item.specs.declared.item.Item.TheVariants.{Nop, Start, Open, Close, Operand, Operator, Compare, Assign, EndIf, Call, Kind, Pin, Direct, Mark, End}
 use Rattle.operand.specs.declared.edition.Edition.{Edition}
-use Rattle.rule.specs.Words.{item_at}
+use Rattle.decode.specs.Words.{item_at}
 use Rattle.marks.specs.Marks.{next_mark}
 use Rattle.marks.specs.Places.{first_place}
 

@@ -1,53 +1,35 @@
 // Question 12: the history cells of all calls.
-ghost use Rattle.std.specs.Prelude.{◌≡◌, ◌+◌, ◌*◌, ◌/◌, ◌<◌, ◌≤◌, length, slice_index};
-ghost use Rattle.decode.specs.Decoded.{item_decoded};
-ghost use Rattle.marks.specs.Cells.{cells_asked, cells_until, all_cells};
+ghost use Rattle.std.specs.Prelude.{◌≡◌, ◌*◌, ◌/◌, ◌<◌, ◌≤◌, length, slice_index};
+ghost use Rattle.decode.specs.Words.{item_at};
+ghost use Rattle.marks.specs.Cells.{cells_asked, all_cells};
 
-use catalogue::Block;
-use operand::edition::Edition;
+use decode::items::Items;
+use item::item::Nameless;
 
-// The item that names a block kind.
-const KIND: u16 = 41;
+// The number of an item that names a block kind.
+const KIND: u16 = Nameless::Kind as u16;
 
-// The cells that an item asks for: those of the block kind that it names.
-fn cells_asked(edition: Edition, number: u16, argument: u16) -> usize
-    ensures value { result ≡ cells_asked (item_decoded edition number argument) }
+// The cells that the item at a place asks for: those of the block kind that it names.
+// Only an item that names one has its number, so no other item is decoded.
+fn cells_at(items: Items, place: usize, number: u16) -> usize
+    requires { (place < length items.words.now / 2) × (number ≡ slice_index items.words.now (2 * place)) }
+    ensures value { result ≡ cells_asked (item_at items.entry.edition items.entry.words.now place) }
     ensures bound { result ≤ 3 }
 {
     if number != KIND {
         return 0;
     }
-    match Block::numbered(edition, argument) {
-        Some(block) => block.cells() as usize,
-        None => 0,
-    }
+    items.get(place).map_or(0, |item| item.cells() as usize)
 }
 
-// The cells that the item adds whose number stands at an index; an argument adds none.
-fn cells_at(edition: Edition, items: &[u16], index: usize, number: u16) -> usize
-    requires { (index < length items.now) × (number ≡ slice_index items.now index) }
-    ensures turn { cells_until edition items.now index + result ≡ cells_until edition items.now (index + 1) }
-    ensures bound { result ≤ 3 }
+// The history cells of all calls.
+pub fn count_cells(items: Items) -> usize
+    ensures { result ≡ all_cells items.entry.edition items.entry.words.now }
 {
-    if index % 2 == 1 || index + 1 == items.len() {
-        return 0;
-    }
-    cells_asked(edition, number, items[index + 1])
-}
-
-fn sum_cells(edition: Edition, items: &[u16]) -> usize
-    ensures { result ≡ cells_until edition items.now (length items.now) }
-{
+    let (pairs, _) = items.words.as_chunks::<2>();
     let mut cells = 0;
-    for (index, number) in items.iter().enumerate() {
-        cells += cells_at(edition, items, index, *number);
+    for (place, pair) in pairs.iter().enumerate() {
+        cells += cells_at(items, place, pair[0]);
     }
     cells
-}
-
-// The history cells of all calls. The items are two words each, number and argument.
-pub fn count_cells(edition: Edition, items: &[u16]) -> usize
-    ensures { result ≡ all_cells edition items.now }
-{
-    sum_cells(edition, items)
 }

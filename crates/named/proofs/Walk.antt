@@ -1,13 +1,16 @@
 -- The first item whose point is not fitted is the one that the answer over all items tells.
-use Rattle.std.proofs.Common.{◌≡◌, ℕ, zero, suc, ◌≤◌, List, Some, None, Ok, Err, Option, Result, sym, refl, ap, ◌∙◌, ⊎_elim, arith, MatchResult}
+use Rattle.std.proofs.Common.{◌≡◌, ℕ, zero, suc, ◌≤◌, List, Some, None, Ok, Err, Option, Result, sym, refl, ap, ◌∙◌, subst, ⊎_elim, arith, MatchResult, below_more, ◌+◌, ◌/◌, ◌∷◌, length}
+use Rattle.item.specs.declared.item.Item.{Item}
+use Rattle.decode.specs.Words.{items_from}
+use Rattle.decode.proofs.Places.{item_here}
 use Rattle.std.proofs.lemmas.Bool.{cases_lt}
 use Rattle.operand.specs.declared.edition.Edition.{Edition}
 use Rattle.plant.specs.declared.fault.Unfitted.{Unfitted}
-use Rattle.plant.specs.Points.{Point, absent, wired, Meaning, Fitted}
-use Rattle.plant.specs.Faults.{Told}
+use Rattle.plant.specs.Points.{Point, absent, wired, Meaning, Fitted, fault_at}
+use Rattle.plant.specs.Faults.{Told, told_of}
 use Rattle.named.specs.declared.point.NamedPoint.{NamedPoint}
-use Rattle.named.specs.Naming.{point_at}
-use Rattle.named.specs.Fitting.{Fits, AllFit, FirstUnfitted, fit_at, fit_named, or_else, fitting}
+use Rattle.named.specs.Naming.{known_point, point_at}
+use Rattle.named.specs.Fitting.{Fits, AllFit, UnfittedAt, FirstUnfitted, fit_at, fit_named, or_else, fitting}
 
 fit_so : (layer place p : ℕ) (x : Point) → Fitted x → fit_at layer place p x ≡ Ok tt
 fit_so layer place p absent f = absurd f
@@ -51,3 +54,36 @@ module _ (m : Meaning) (layer : ℕ) (e : Edition) (ws : List ℕ) where
   pub pinned : (n : ℕ) (r : Result (Unit {0}) Unfitted) → MatchResult r (λ _. AllFit m e ws n) (FirstUnfitted m layer e ws n) → r ≡ fitting m layer e ws n
   pinned n (Ok t) h = sym (all_fit n h)
   pinned n (Err u) h = sym (first u n h)
+
+  fits_so : (place : ℕ) (o : Option NamedPoint) → Ok tt ≡ fit_named m layer place o → Fits m o
+  fits_so place None h = tt
+  fits_so place (Some n) h = by (m n.point) h
+    where
+      by : (x : Point) → Ok tt ≡ fit_at layer place n.point x → Fitted x
+      by absent q = let z : ◌≡◌ {A = ℕ} 0 1 = cc in absurd (omega arith)
+      by (wired i o) q = tt
+
+  unfit_so : (place : ℕ) (o : Option NamedPoint) (u : Unfitted) → point_at e ws place ≡ o → Err u ≡ fit_named m layer place o → (u.place ≡ place) × UnfittedAt m layer e ws place u
+  unfit_so place None u h q = let z : ◌≡◌ {A = ℕ} 0 1 = cc in absurd (omega arith)
+  unfit_so place (Some n) u h q = by (m n.point) refl q
+    where
+      by : (x : Point) → m n.point ≡ x → Err u ≡ fit_at layer place n.point x → (u.place ≡ place) × UnfittedAt m layer e ws place u
+      by absent a r =
+          let same : u ≡ record { place = place; fault = fault_at layer n.point } = cc in
+          (ap (λ (v : Unfitted). v.place) same, record { names = n; here = h; unfitted = a; told = ap told_of same })
+      by (wired i o) a r = let z : ◌≡◌ {A = ℕ} 0 1 = cc in absurd (omega arith)
+
+  -- a walk over the items, at place p: one that fits, and the first that does not
+  module _ (p place : ℕ) (xs ys : List (Option Item)) (x : Option Item) (walk : xs ≡ items_from e ws p) (next : xs ≡ x ∷ ys) (here : place ≡ p) (before : AllFit m e ws p) where
+    pub one_fits : Ok tt ≡ fit_named m layer place (known_point x) → AllFit m e ws (p + 1)
+    one_fits h =
+        let (l, q, r) = item_here e ws p xs ys x walk next in
+        below_more _ _ before (subst (λ (o : Option Item). Fits m (known_point o)) q (fits_so place (known_point x) h))
+
+    pub one_unfit : (u : Unfitted) → Err u ≡ fit_named m layer place (known_point x) → FirstUnfitted m layer e ws (length ws / 2) u
+    one_unfit u h =
+        let (l, q, r) = item_here e ws p xs ys x walk next in
+        let at : point_at e ws place ≡ known_point x = ap (point_at e ws) here ∙ ap known_point (sym q) in
+        let (a, b) = unfit_so place (known_point x) u at h in
+        let same : p ≡ u.place = omega arith in
+        record { within = omega arith; before = subst (AllFit m e ws) same before; at = subst (λ (n : ℕ). UnfittedAt m layer e ws n u) (sym a) b }

@@ -7,7 +7,7 @@ use Rattle.operand.specs.declared.operand.Operand.{Operand as AnyOperand}
 use Rattle.operand.specs.Codes.{place_of}
 use Rattle.item.specs.declared.item.Item.{Item}
 use Rattle.item.specs.declared.item.Item.TheVariants.{Nop, Start, Open, Close, Operand, Operator, Compare, Assign, EndIf, Call, Kind, Pin, Direct, Mark, End}
-use Rattle.rule.specs.Words.{item_at}
+use Rattle.decode.specs.Words.{item_at}
 use Rattle.named.specs.declared.point.Side.{Side}
 use Rattle.named.specs.declared.point.Side.TheVariants.{Input, Output}
 use Rattle.named.specs.declared.point.NamedPoint.{NamedPoint}

@@ -1,10 +1,9 @@
 // The point that an operand or an item names.
-ghost use Rattle.std.specs.Prelude.{◌≡◌, ◌/◌, ◌<◌, true, length};
-ghost use Rattle.named.specs.Naming.{group_point, word_point, operand_point, edition_point, item_point, point_at};
+ghost use Rattle.std.specs.Prelude.{◌≡◌, ◌+◌, ◌≤◌, true, cond, nat_lt, None as None-of};
+ghost use Rattle.named.specs.Naming.{at_side, group_point, word_point, operand_point, edition_point, item_point, known_point};
 ghost use Rattle.operand.specs.Codes.{in_range};
 ghost use Rattle.operand.specs.declared.edition.Edition.{Edition as AnyEdition};
 
-use decode::decode_item;
 use item::item::Item;
 use operand::edition::Edition;
 use operand::kind::Kind;
@@ -23,32 +22,33 @@ pub struct NamedPoint {
     pub point: u16,
 }
 
-// The point of a group of inputs or outputs.
-fn group_point(side: Side, group: u8) -> Option<NamedPoint>
-    ensures { result ≡ group_point side group }
+// The point of a number below a limit, among those that begin at the first.
+fn point_from(side: Side, first: u16, number: u16, limit: u16) -> Option<NamedPoint>
+    requires { first + limit ≤ 65535 }
+    ensures { result ≡ cond (nat_lt number limit) (at_side side (first + number)) None-of }
 {
-    if group < 64 {
+    if number < limit {
         Some(NamedPoint {
             side,
-            point: group as u16,
+            point: first + number,
         })
     } else {
         None
     }
 }
 
-// The point of an input word or an output word.
+// Points 0 to 63 are the groups of E and A.
+fn group_point(side: Side, group: u8) -> Option<NamedPoint>
+    ensures { result ≡ group_point side group }
+{
+    point_from(side, 0, group as u16, 64)
+}
+
+// Points 64 to 191 are the places of EW and AW.
 fn word_point(side: Side, place: u16) -> Option<NamedPoint>
     ensures { result ≡ word_point side place }
 {
-    if place < 128 {
-        Some(NamedPoint {
-            side,
-            point: 64 + place,
-        })
-    } else {
-        None
-    }
+    point_from(side, 64, place, 128)
 }
 
 fn by_kind(operand: Operand) -> Option<NamedPoint>
@@ -80,13 +80,9 @@ fn item_point(item: Item) -> Option<NamedPoint>
     }
 }
 
-// The point that the item at a place names; an item that is not known names none.
-pub fn point_at(edition: Edition, items: &[u16], place: usize) -> Option<NamedPoint>
-    requires { place < length items.now / 2 }
-    ensures { result ≡ point_at edition items.now place }
+// The point that an item names; one that is not known names none.
+pub fn known_point(item: Option<Item>) -> Option<NamedPoint>
+    ensures { result ≡ known_point item }
 {
-    match decode_item(edition, items[2 * place], items[2 * place + 1]) {
-        Some(item) => item_point(item),
-        None => None,
-    }
+    item_point(item?)
 }

@@ -1,10 +1,10 @@
 // The named points of a list as two sets.
 ghost use Rattle.std.specs.Prelude.{◌≡◌, ℕ, ◌/◌, ◌<◌, false, ◌||◌, length, slice_index_or};
-ghost use Rattle.named.specs.Sets.{Has, is_point, names};
+ghost use Rattle.named.specs.Sets.{Has, is_point};
 ghost use Rattle.named.specs.declared.point.Side.TheVariants.{Input, Output};
 
-use crate::point::{NamedPoint, Side, point_at};
-use operand::edition::Edition;
+use crate::point::{NamedPoint, Side, known_point};
+use decode::items::Items;
 
 // A flag for each point: whether an item names its input, and whether one names its output.
 #[derive(Clone, Copy)]
@@ -23,29 +23,23 @@ fn mark(set: &mut [bool; 192], side: Side, named: Option<NamedPoint>)
     }
 }
 
-fn marked(edition: Edition, items: &[u16], side: Side) -> [bool; 192]
-    ensures { (p : ℕ) → p < 192 → slice_index_or result p false ≡ names edition items.now side p (length items.now / 2) }
+fn set_of(items: Items, side: Side) -> [bool; 192]
+    ensures { Has items.entry.edition items.entry.words.now side (length items.entry.words.now / 2) result }
 {
     let mut set = [false; 192];
-    for place in 0..items.len() / 2 {
-        mark(&mut set, side, point_at(edition, items, place));
+    for item in items {
+        mark(&mut set, side, known_point(item));
     }
     set
 }
 
-fn set_of(edition: Edition, items: &[u16], side: Side) -> [bool; 192]
-    ensures { Has edition items.now side (length items.now / 2) result }
-{
-    marked(edition, items, side)
-}
-
-// The points that the items name. The items are two words each, number and argument.
-pub fn named_points(edition: Edition, items: &[u16]) -> Named
-    ensures inputs { Has edition items.now Input (length items.now / 2) result.inputs }
-    ensures outputs { Has edition items.now Output (length items.now / 2) result.outputs }
+// The points that the items name.
+pub fn named_points(items: Items) -> Named
+    ensures inputs { Has items.entry.edition items.entry.words.now Input (length items.entry.words.now / 2) result.inputs }
+    ensures outputs { Has items.entry.edition items.entry.words.now Output (length items.entry.words.now / 2) result.outputs }
 {
     Named {
-        inputs: set_of(edition, items, Side::Input),
-        outputs: set_of(edition, items, Side::Output),
+        inputs: set_of(items, Side::Input),
+        outputs: set_of(items, Side::Output),
     }
 }

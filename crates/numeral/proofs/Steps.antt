@@ -1,19 +1,15 @@
 -- One digit after another: what is left to read gives the number.
-use Rattle.std.proofs.Common.{◌≡◌, ℕ, ◌+◌, ◌-◌, ◌*◌, ◌<◌, ◌≤◌, true, false, cond, List, [], ◌∷◌, length, get_or, take, drop, Some, None, Option, sym, refl, ap, ◌∙◌, arith, take_all}
+use Rattle.std.proofs.Common.{◌≡◌, ℕ, ◌+◌, ◌-◌, ◌*◌, ◌<◌, ◌≤◌, cond, ◌&&◌, List, [], ◌∷◌, length, get_or, drop, Some, None, Option, sym, refl, ap, ◌∙◌, arith}
 use Rattle.std.specs.Str.{all_ascii_digits}
+use Rattle.std.specs.List.{list_all}
 use Rattle.std.proofs.lemmas.List.{at_drop_more, at_drop_all}
-use Rattle.std.proofs.lemmas.Bool.{cond-true, eq-eqb}
 use Rattle.std.proofs.lemmas.Bool.Decides.{nat_tests}
 use Rattle.character.specs.Classes.{is_digit}
-use Rattle.numeral.specs.Numerals.{value_on, natural, written_as, minus_of, up_to, digit_on}
+use Rattle.numeral.specs.Numerals.{value_on, up_to, digit_on}
 
 -- what the digits that are left make of n
 abbrev pub rest : ℕ → ℕ → List ℕ → Option ℕ
 rest limit n ds = up_to limit (cond (all_ascii_digits ds) (Some (value_on n ds)) None)
-
-pub at_start : (limit : ℕ) (ds : List ℕ) → (length ds ≡ 0 → ⊥) → rest limit 0 ds ≡ up_to limit (natural ds)
-at_start limit [] h = absurd (h refl)
-at_start limit (c ∷ cs) h = refl
 
 grows : (n : ℕ) (ds : List ℕ) → n ≤ value_on n ds
 grows n [] = omega arith
@@ -43,17 +39,6 @@ pub kept : (limit n c m : ℕ) → Some m ≡ digit_on limit n c → m ≤ limit
 kept limit n c m h = grind (arith, nat_tests)
 
 -- digits alone
-pub digit_next : (i : ℕ) (bs : List ℕ) → i < length bs → is_digit (get_or bs i 0) ≡ true → all_ascii_digits (drop (i + 1) bs) ≡ all_ascii_digits (drop i bs)
-digit_next i bs l h = sym (at_drop_more all_ascii_digits bs i 0 l ∙ grind (arith, nat_tests))
-
-pub digit_not : (i : ℕ) (bs : List ℕ) → i < length bs → is_digit (get_or bs i 0) ≡ false → false ≡ all_ascii_digits (drop i bs)
-digit_not i bs l h = sym (at_drop_more all_ascii_digits bs i 0 l ∙ grind (arith, nat_tests))
-
-pub digits_end : (i : ℕ) (bs : List ℕ) → length bs ≤ i → true ≡ all_ascii_digits (drop i bs)
-digits_end i bs l = sym (at_drop_all all_ascii_digits bs i l)
-
--- behind a minus
-pub minus_first : (bs : List ℕ) → 0 < length bs → get_or bs 0 0 ≡ 45 → written_as bs ≡ minus_of (natural (take (length bs - 1) (drop 1 bs)))
-minus_first [] l h = absurd (omega arith)
-minus_first (c ∷ cs) l h =
-    cond-true _ _ _ (eq-eqb c 45 h) ∙ ap (λ (ds : List ℕ). minus_of (natural ds)) (sym (take_all (length (c ∷ cs) - 1) cs (omega arith)))
+pub each_digit : (ds : List ℕ) → list_all is_digit ds ≡ all_ascii_digits ds
+each_digit [] = refl
+each_digit (c ∷ cs) = ap (λ b. is_digit c && b) (each_digit cs)

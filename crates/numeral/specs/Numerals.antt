@@ -1,5 +1,5 @@
 -- Numbers in a text: digits, or a minus and digits. Their value is exact, however long they are.
-use Rattle.std.specs.Prelude.{ℕ, ◌+◌, ◌-◌, ◌*◌, Bool, true, false, cond, ◌&&◌, List, [], ◌∷◌, ℤ, pos, neg_ℤ, Some, None, Option, ◌==◌, int_le, nat_le}
+use Rattle.std.specs.Prelude.{ℕ, ◌+◌, ◌-◌, ◌*◌, cond, ◌&&◌, List, [], ◌∷◌, ℤ, pos, neg_ℤ, Some, None, Option, ◌==◌, int_le, nat_le}
 use Rattle.std.specs.Str.{all_ascii_digits}
 use Rattle.character.specs.Classes.{is_digit}
 
@@ -47,11 +47,6 @@ within low high (Some w) = cond (int_le low (value_of w) && int_le (value_of w) 
 -- the number with one more digit behind n, where that is at most limit
 abbrev pub digit_on : ℕ → ℕ → ℕ → Option ℕ
 digit_on limit n c = cond (is_digit c) (up_to limit (Some (10 * n + (c - 48)))) None
-
--- a number with a minus or without
-abbrev pub signed_of : Bool → Option ℕ → Option Written
-signed_of true n = minus_of n
-signed_of false n = plain_of n
 
 -- the number, where it lies from low to high
 abbrev pub from_to : ℤ → ℤ → ℤ → Option ℤ

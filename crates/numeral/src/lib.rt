@@ -2,9 +2,10 @@
 // Every number is read exactly, however many digits it has.
 #![tactic(auto)]
 
-ghost use Rattle.std.specs.Prelude.{◌≡◌, pos, neg_ℤ, is_some};
-ghost use Rattle.std.specs.Str.{all_ascii_digits};
-ghost use Rattle.numeral.specs.Numerals.{natural, plain_of, minus_of, written_as, up_to, within, digit_on, signed_of, from_to};
+ghost use Rattle.std.specs.Prelude.{◌≡◌, is_some, MatchOption};
+ghost use Rattle.std.specs.List.{list_all};
+ghost use Rattle.character.specs.Classes.{is_digit};
+ghost use Rattle.numeral.specs.Numerals.{natural, plain_of, minus_of, written_as, up_to, within, digit_on, from_to};
 
 use character::is_digit;
 
@@ -18,121 +19,66 @@ fn append_digit(value: u32, digit: u8, limit: u32) -> Option<u32>
     if !is_digit(digit) {
         return None;
     }
-    let longer = 10 * value as u64 + (digit - b'0') as u64;
-    if longer <= limit as u64 {
-        Some(longer as u32)
-    } else {
-        None
-    }
+    let longer = value.checked_mul(10)?.checked_add(u32::from(digit - b'0'))?;
+    (longer <= limit).then_some(longer)
 }
 
 // The number of at most `limit` that the digits write.
 pub fn read_natural(digits: &[u8], limit: u32) -> Option<u32>
     ensures { result ≡ up_to limit (natural digits.now) }
 {
-    if digits.len() == 0 {
+    if digits.is_empty() {
         return None;
     }
     let mut value = 0;
     for digit in digits {
-        let Some(longer) = append_digit(value, *digit, limit) else {
-            return None;
-        };
-        value = longer;
+        value = append_digit(value, *digit, limit)?;
     }
     Some(value)
 }
 
-fn all_digits(bytes: &[u8]) -> bool
-    ensures { result ≡ all_ascii_digits bytes.now }
-{
-    for byte in bytes {
-        if !is_digit(*byte) {
-            return false;
-        }
-    }
-    true
-}
-
 // Whether the bytes write a number without a sign.
+#[tactic(auto, using(crate::proofs::Steps::each_digit))]
 pub fn is_natural(digits: &[u8]) -> bool
     ensures { result ≡ is_some (natural digits.now) }
 {
-    digits.len() > 0 && all_digits(digits)
+    !digits.is_empty() && all_digits(digits)
 }
 
-// A text without its minus, and whether it had one.
-#[derive(Clone, Copy)]
-struct Signed<'a> {
-    minus: bool,
-    digits: &'a [u8],
-}
-
-fn split_sign<'a>(text: &'a [u8]) -> Signed<'a>
-    ensures { written_as text.now ≡ signed_of result.minus (natural result.digits.now) }
+fn all_digits(bytes: &[u8]) -> bool
+    ensures { result ≡ list_all is_digit bytes.now }
 {
-    if text.len() > 0 && text[0] == b'-' {
-        Signed {
-            minus: true,
-            digits: &text[1..],
-        }
-    } else {
-        Signed {
-            minus: false,
-            digits: text,
-        }
-    }
+    bytes.iter().all(|byte| is_digit(*byte))
+}
+
+// The bytes behind a minus, where the text begins with one.
+fn behind_minus<'a>(text: &'a [u8]) -> Option<&'a [u8]>
+    ensures { MatchOption result (written_as text.now ≡ plain_of (natural text.now)) (λ digits. written_as text.now ≡ minus_of (natural digits.now)) }
+{
+    text.strip_prefix(b"-".as_slice())
 }
 
 // Whether the bytes write a number, with a minus or without.
 pub fn is_number(text: &[u8]) -> bool
     ensures { result ≡ is_some (written_as text.now) }
 {
-    is_natural(split_sign(text).digits)
-}
-
-fn negated(size: u32) -> i64
-    ensures { result ≡ neg_ℤ (pos size) }
-{
-    -(size as i64)
+    is_natural(behind_minus(text).unwrap_or(text))
 }
 
 fn in_range(number: i64, low: i32, high: i32) -> Option<i32>
     ensures { result ≡ from_to low high number }
 {
-    if low as i64 <= number && number <= high as i64 {
-        Some(number as i32)
-    } else {
-        None
-    }
-}
-
-fn read_plain(digits: &[u8], low: i32, high: i32) -> Option<i32>
-    ensures { result ≡ within low high (plain_of (natural digits.now)) }
-{
-    match read_natural(digits, LARGEST) {
-        Some(size) => in_range(size as i64, low, high),
-        None => None,
-    }
-}
-
-fn read_minus(digits: &[u8], low: i32, high: i32) -> Option<i32>
-    ensures { result ≡ within low high (minus_of (natural digits.now)) }
-{
-    match read_natural(digits, LARGEST) {
-        Some(size) => in_range(negated(size), low, high),
-        None => None,
-    }
+    let number = i32::try_from(number).ok()?;
+    (low <= number && number <= high).then_some(number)
 }
 
 // The number from `low` to `high` that the text writes.
 pub fn read_value(text: &[u8], low: i32, high: i32) -> Option<i32>
     ensures { result ≡ within low high (written_as text.now) }
 {
-    let signed = split_sign(text);
-    if signed.minus {
-        read_minus(signed.digits, low, high)
-    } else {
-        read_plain(signed.digits, low, high)
-    }
+    let number = match behind_minus(text) {
+        Some(digits) => -i64::from(read_natural(digits, LARGEST)?),
+        None => i64::from(read_natural(text, LARGEST)?),
+    };
+    in_range(number, low, high)
 }

@@ -1,7 +1,8 @@
 -- The eleven kinds of operands: number, letters, and what an operand of the kind holds.
-use Rattle.std.specs.Prelude.{ℕ, Bool, cond, List, Some, None, codes, Option, ◌==◌}
+use Rattle.std.specs.Prelude.{◌≡◌, ℕ, Bool, cond, List, Some, None, codes, Option, Result, ◌==◌, ok_or}
 use Rattle.operand.specs.declared.kind.Kind.{Kind}
 use Rattle.operand.specs.declared.kind.Kind.TheVariants.{Input, Output, Marker, Step, Constant, InputWord, OutputWord, MarkerWord, ConstantWord, MarkerDouble, ConstantDouble}
+use Rattle.operand.specs.declared.kind.UnknownKind.{UnknownKind}
 use Rattle.operand.specs.declared.kind.Size.{Size}
 use Rattle.operand.specs.declared.kind.Size.TheVariants.{Bit, Word, Double}
 
@@ -33,6 +34,10 @@ kind_numbered n =
     cond (n == 9) (Some MarkerDouble) (
     cond (n == 10) (Some ConstantDouble) (
     None)))))))))))
+
+-- the kind with this number, or the number where no kind has it
+abbrev pub IsKindNumbered : ℕ → Result Kind UnknownKind → Type 0
+IsKindNumbered n r = r ≡ ok_or (kind_numbered n) (record { 0 = n })
 
 abbrev pub letters_of : Kind → List ℕ
 letters_of Input = codes "E"

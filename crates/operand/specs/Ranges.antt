@@ -1,9 +1,11 @@
 -- Which operands there are: ranges of places of a kind, by edition.
-use Rattle.std.specs.Prelude.{ℕ, ◌+◌, ◌*◌, Bool, true, false, cond, ◌&&◌, ◌||◌, List, [], ◌∷◌, Some, None, Option, ◌==◌, nat_le}
+use Rattle.std.specs.Prelude.{◌≡◌, ℕ, ◌+◌, ◌*◌, Bool, cond, ◌&&◌, List, [], ◌∷◌, Some, None, Option, Result, ◌==◌, nat_le, ok_or}
+use Rattle.std.specs.List.{list_any, list_all}
 use Rattle.operand.specs.declared.kind.Kind.{Kind}
 use Rattle.operand.specs.declared.kind.Kind.TheVariants.{Input, Output, Marker, Step, Constant, InputWord, OutputWord, MarkerWord, ConstantWord, MarkerDouble, ConstantDouble}
 use Rattle.operand.specs.declared.edition.Edition.{Edition}
 use Rattle.operand.specs.declared.edition.Edition.TheVariants.{Series90}
+use Rattle.operand.specs.declared.edition.UnknownEdition.{UnknownEdition}
 use Rattle.operand.specs.declared.edition.Range.{Range}
 use Rattle.operand.specs.Kinds.{same_kind}
 
@@ -14,6 +16,10 @@ edition_number Series90 = 90
 -- the edition with a number, if there is one
 abbrev pub edition_numbered : ℕ → Option Edition
 edition_numbered n = cond (n == 90) (Some Series90) None
+
+-- the edition with this number, or the number where no edition has it
+abbrev pub IsEditionNumbered : ℕ → Result Edition UnknownEdition → Type 0
+IsEditionNumbered n r = r ≡ ok_or (edition_numbered n) (record { 0 = n })
 
 -- the channels of the groups from first to last
 abbrev groups : Kind → ℕ → ℕ → Range
@@ -53,13 +59,11 @@ abbrev pub range_holds : Range → Kind → ℕ → Bool
 range_holds r k place = same_kind r.kind k && (nat_le r.first place && nat_le place r.last)
 
 abbrev pub any_holds : List Range → Kind → ℕ → Bool
-any_holds [] k place = false
-any_holds (r ∷ rs) k place = range_holds r k place || any_holds rs k place
+any_holds rs k place = list_any (λ r. range_holds r k place) rs
 
 -- the rule of a table: a range does not end before it begins, and no place needs more than twelve bits
 abbrev pub lawful_range : Range → Bool
 lawful_range r = nat_le r.first r.last && nat_le r.last 4095
 
 abbrev pub all_lawful : List Range → Bool
-all_lawful [] = true
-all_lawful (r ∷ rs) = lawful_range r && all_lawful rs
+all_lawful rs = list_all lawful_range rs

@@ -1,16 +1,20 @@
 // Editions of the instruction list, and the operands that each has.
 ghost use Rattle.std.specs.Prelude.{◌≡◌, true};
-ghost use Rattle.operand.specs.Ranges.{all_lawful, edition_number, edition_numbered, ranges_of, series_90, any_holds, range_holds};
+ghost use Rattle.operand.specs.Ranges.{all_lawful, edition_number, IsEditionNumbered, ranges_of, any_holds, range_holds};
 
 use crate::kind::Kind;
 
-#[derive(Clone, Copy)]
+#[derive(Clone, Copy, Debug, PartialEq, Eq)]
 pub enum Edition {
     Series90 = 90,
 }
 
+// A number that no edition has.
+#[derive(Clone, Copy, Debug, PartialEq, Eq)]
+pub struct UnknownEdition(pub u16);
+
 // The places of a kind from `first` to `last`; a place is 16 × group + channel.
-#[derive(Clone, Copy)]
+#[derive(Clone, Copy, Debug, PartialEq, Eq)]
 pub struct Range {
     pub kind: Kind,
     pub first: u16,
@@ -75,12 +79,6 @@ static SERIES_90: [Range; 11] = [
     },
 ];
 
-fn series_90() -> &'static [Range]
-    ensures { result.now ≡ series_90 }
-{
-    &SERIES_90
-}
-
 impl Edition {
     // The number that an image's trailer has for the edition.
     pub fn number(self) -> u16
@@ -89,22 +87,25 @@ impl Edition {
         self as u16
     }
 
-    // The edition with that number, if there is one.
-    pub fn numbered(number: u16) -> Option<Edition>
-        ensures { result ≡ edition_numbered number }
-    {
-        match number {
-            90 => Some(Edition::Series90),
-            _ => None,
-        }
-    }
-
     pub fn ranges(self) -> &'static [Range]
         ensures value { result.now ≡ ranges_of self }
         ensures lawful { all_lawful result.now ≡ true }
     {
         match self {
-            Edition::Series90 => series_90(),
+            Edition::Series90 => &SERIES_90,
+        }
+    }
+}
+
+impl TryFrom<u16> for Edition {
+    type Error = UnknownEdition;
+
+    ghost try_from_gives = { IsEditionNumbered };
+
+    fn try_from(number: u16) -> Result<Edition, UnknownEdition> {
+        match number {
+            90 => Ok(Edition::Series90),
+            _ => Err(UnknownEdition(number)),
         }
     }
 }
@@ -120,10 +121,5 @@ impl Range {
 pub fn in_ranges(ranges: &[Range], kind: Kind, place: u16) -> bool
     ensures { result ≡ any_holds ranges.now kind place }
 {
-    for range in ranges {
-        if range.holds(kind, place) {
-            return true;
-        }
-    }
-    false
+    ranges.iter().any(|range| range.holds(kind, place))
 }

@@ -1,24 +1,28 @@
 // The kinds of operands, their numbers, letters and what they hold.
 ghost use Rattle.std.specs.Prelude.{◌≡◌};
-ghost use Rattle.operand.specs.Kinds.{number_of, kind_numbered, letters_of, size_of};
+ghost use Rattle.operand.specs.Kinds.{number_of, IsKindNumbered, letters_of, size_of};
 
-#[derive(Clone, Copy, PartialEq)]
+#[derive(Clone, Copy, Debug, PartialEq, Eq)]
 pub enum Kind {
-    Input,
-    Output,
-    Marker,
-    Step,
-    Constant,
-    InputWord,
-    OutputWord,
-    MarkerWord,
-    ConstantWord,
-    MarkerDouble,
-    ConstantDouble,
+    Input = 0,
+    Output = 1,
+    Marker = 2,
+    Step = 3,
+    Constant = 4,
+    InputWord = 5,
+    OutputWord = 6,
+    MarkerWord = 7,
+    ConstantWord = 8,
+    MarkerDouble = 9,
+    ConstantDouble = 10,
 }
 
+// A number that no kind has.
+#[derive(Clone, Copy, Debug, PartialEq, Eq)]
+pub struct UnknownKind(pub u16);
+
 // What an operand holds.
-#[derive(Clone, Copy)]
+#[derive(Clone, Copy, Debug, PartialEq, Eq)]
 pub enum Size {
     Bit,
     Word,
@@ -29,39 +33,7 @@ impl Kind {
     pub fn number(self) -> u16
         ensures { result ≡ number_of self }
     {
-        match self {
-            Kind::Input => 0,
-            Kind::Output => 1,
-            Kind::Marker => 2,
-            Kind::Step => 3,
-            Kind::Constant => 4,
-            Kind::InputWord => 5,
-            Kind::OutputWord => 6,
-            Kind::MarkerWord => 7,
-            Kind::ConstantWord => 8,
-            Kind::MarkerDouble => 9,
-            Kind::ConstantDouble => 10,
-        }
-    }
-
-    // The kind with that number, if there is one.
-    pub fn numbered(number: u16) -> Option<Kind>
-        ensures { result ≡ kind_numbered number }
-    {
-        match number {
-            0 => Some(Kind::Input),
-            1 => Some(Kind::Output),
-            2 => Some(Kind::Marker),
-            3 => Some(Kind::Step),
-            4 => Some(Kind::Constant),
-            5 => Some(Kind::InputWord),
-            6 => Some(Kind::OutputWord),
-            7 => Some(Kind::MarkerWord),
-            8 => Some(Kind::ConstantWord),
-            9 => Some(Kind::MarkerDouble),
-            10 => Some(Kind::ConstantDouble),
-            _ => None,
-        }
+        self as u16
     }
 
     pub fn letters(self) -> &'static str
@@ -90,6 +62,29 @@ impl Kind {
             Kind::InputWord | Kind::OutputWord | Kind::MarkerWord | Kind::ConstantWord =>
                 Size::Word,
             Kind::MarkerDouble | Kind::ConstantDouble => Size::Double,
+        }
+    }
+}
+
+impl TryFrom<u16> for Kind {
+    type Error = UnknownKind;
+
+    ghost try_from_gives = { IsKindNumbered };
+
+    fn try_from(number: u16) -> Result<Kind, UnknownKind> {
+        match number {
+            0 => Ok(Kind::Input),
+            1 => Ok(Kind::Output),
+            2 => Ok(Kind::Marker),
+            3 => Ok(Kind::Step),
+            4 => Ok(Kind::Constant),
+            5 => Ok(Kind::InputWord),
+            6 => Ok(Kind::OutputWord),
+            7 => Ok(Kind::MarkerWord),
+            8 => Ok(Kind::ConstantWord),
+            9 => Ok(Kind::MarkerDouble),
+            10 => Ok(Kind::ConstantDouble),
+            _ => Err(UnknownKind(number)),
         }
     }
 }

@@ -8,7 +8,7 @@ ghost use Rattle.operand.specs.declared.edition.Edition.{Edition as AnyEdition};
 use crate::edition::{Edition, Range, in_ranges};
 use crate::kind::Kind;
 
-#[derive(Clone, Copy)]
+#[derive(Clone, Copy, Debug, PartialEq, Eq)]
 pub struct Operand {
     pub kind: Kind,
     pub group: u8,
@@ -63,45 +63,29 @@ static SYSTEM: [Range; 2] = [
     },
 ];
 
-fn writable() -> &'static [Range]
-    ensures { result.now ≡ writable_ranges }
-{
-    &WRITABLE
-}
-
-fn system() -> &'static [Range]
-    ensures { result.now ≡ system_ranges }
-{
-    &SYSTEM
-}
-
 // The operand of a kind at a group and a channel, if the edition has it.
 pub fn operand_at(edition: Edition, kind: Kind, group: u8, channel: u8) -> Option<Operand>
     ensures { result ≡ operand_at edition kind group channel }
 {
     let place = 16 * group as u16 + channel as u16;
-    if channel <= 15 && in_ranges(edition.ranges(), kind, place) {
-        Some(Operand {
-            kind,
-            group,
-            channel,
-        })
-    } else {
-        None
-    }
+    let operand = Operand {
+        kind,
+        group,
+        channel,
+    };
+    (channel <= 15 && in_ranges(edition.ranges(), kind, place)).then_some(operand)
 }
 
 fn at_code(edition: Edition, code: u16) -> Option<Operand>
     ensures { result ≡ decoded edition code }
 {
+    let kind = Kind::try_from(code / 4096).ok()?;
     let place = code % 4096;
-    match Kind::numbered(code / 4096) {
-        Some(kind) => operand_at(edition, kind, (place / 16) as u8, (place % 16) as u8),
-        None => None,
-    }
+    operand_at(edition, kind, (place / 16) as u8, (place % 16) as u8)
 }
 
 // The operand that a code stands for.
+#[tactic(auto, using(crate::proofs::Undoing::decoded_right))]
 pub fn decode(edition: Edition, code: u16) -> Option<Operand>
     ensures value { result ≡ decoded edition code }
     ensures exact { Decodes edition code result }
@@ -123,6 +107,7 @@ impl Operand {
         16 * self.group as u16 + self.channel as u16
     }
 
+    #[tactic(auto, using(crate::proofs::Undoing::undone))]
     pub fn code(self) -> u16
         ensures value { result ≡ code_of self }
         ensures undone { (e : AnyEdition) → in_range e self ≡ true → decoded e result ≡ Some self }
@@ -134,7 +119,7 @@ impl Operand {
     pub fn is_writable(self) -> bool
         ensures { result ≡ may_write self }
     {
-        in_ranges(writable(), self.kind, self.place())
-            && !in_ranges(system(), self.kind, self.place())
+        in_ranges(&WRITABLE, self.kind, self.place())
+            && !in_ranges(&SYSTEM, self.kind, self.place())
     }
 }

@@ -12,10 +12,9 @@ static PLACES: [u16; 11] = [1024, 1024, 4096, 2048, 2, 128, 128, 4096, 640, 512,
 
 // Whether an operand of the kind with that number stands at the place.
 fn is_there(number: u16, place: u16) -> bool {
-    match PLACES.get(number as usize) {
-        Some(places) => place < *places,
-        None => false,
-    }
+    PLACES
+        .get(number as usize)
+        .is_some_and(|places| place < *places)
 }
 
 // Inputs and constants are never written, nor what the system writes.
@@ -85,47 +84,38 @@ fn codes_are_undone(rt: HostRuntime) -> Result<(), Fail> {
     Ok(())
 }
 
-// An operand of a kind, a group and a channel, or none.
-fn check_at(rt: &impl Abort, kind: Kind, group: u8, channel: u8) -> Result<usize, Fail> {
+// Whether there is an operand of the kind at the group and the channel: as it must be.
+fn check_at(rt: &impl Abort, kind: Kind, group: u8, channel: u8) -> bool {
     let place = 16 * group as u16 + channel as u16;
     let expected = channel < 16 && is_there(kind.number(), place);
-    match operand_at(Edition::Series90, kind, group, channel) {
-        Some(operand) => {
-            assert!(rt; expected);
-            assert_eq!(rt; operand.group, group);
-            assert_eq!(rt; operand.channel, channel);
-            assert_eq!(rt; operand.kind.number(), kind.number());
-            Ok(1)
-        }
-        None => {
-            assert!(rt; !expected);
-            Ok(0)
-        }
-    }
-}
-
-fn check_group(rt: &impl Abort, kind: Kind, group: u8) -> Result<usize, Fail> {
-    let mut known = 0usize;
-    for channel in 0..=u8::MAX {
-        known = known.saturating_add(check_at(rt, kind, group, channel)?);
-    }
-    Ok(known)
-}
-
-fn check_kind(rt: &impl Abort, kind: Kind) -> Result<usize, Fail> {
-    let mut known = 0usize;
-    for group in 0..=u8::MAX {
-        known = known.saturating_add(check_group(rt, kind, group)?);
-    }
-    Ok(known)
+    let found = operand_at(Edition::Series90, kind, group, channel);
+    let operand = Operand {
+        kind,
+        group,
+        channel,
+    };
+    assert_eq!(rt; found, expected.then_some(operand));
+    found.is_some()
 }
 
 // Every group and channel of a byte.
+fn check_kind(rt: &impl Abort, kind: Kind) -> usize {
+    let mut known = 0usize;
+    for group in 0..=u8::MAX {
+        for channel in 0..=u8::MAX {
+            if check_at(rt, kind, group, channel) {
+                known = known.saturating_add(1);
+            }
+        }
+    }
+    known
+}
+
 #[test]
 fn operands_lie_in_their_range(rt: HostRuntime) -> Result<(), Fail> {
     for (number, places) in PLACES.iter().enumerate() {
-        let kind = Kind::numbered(number as u16).ok_or("no kind")?;
-        assert_eq!(rt; check_kind(&rt, kind)?, *places as usize);
+        let kind = Kind::try_from(number as u16).map_err(|_| "no kind")?;
+        assert_eq!(rt; check_kind(&rt, kind), *places as usize);
     }
     Ok(())
 }

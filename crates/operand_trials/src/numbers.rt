@@ -1,7 +1,7 @@
 // Numbers of kinds, mnemonics and block kinds, with what each stands for.
 use crate::codes::check_item;
 use catalogue::Block;
-use item::item::Item;
+use item::item::{Item, Nameless};
 use item::mnemonic::Mnemonic;
 use operand::edition::Edition;
 use operand::kind::Kind;
@@ -100,7 +100,7 @@ static BLOCKS: [Known; 7] = [
 #[test]
 fn kinds_have_letters(rt: HostRuntime) -> Result<(), Fail> {
     for (number, letters) in KINDS.iter().enumerate() {
-        let kind = Kind::numbered(number as u16).ok_or("no kind")?;
+        let kind = Kind::try_from(number as u16).map_err(|_| "no kind")?;
         assert_eq!(rt; kind.letters(), *letters);
     }
     Ok(())
@@ -112,7 +112,7 @@ fn mnemonics_have_names(rt: HostRuntime) -> Result<(), Fail> {
     for line in MNEMONICS.lines() {
         let (number, name) = line.split_once(' ').ok_or("no name")?;
         let number = number.parse::<u16>()?;
-        let mnemonic = Mnemonic::numbered(number).ok_or("no mnemonic")?;
+        let mnemonic = Mnemonic::try_from(number).map_err(|_| "no mnemonic")?;
         assert_eq!(rt; mnemonic.number(), number);
         assert_eq!(rt; mnemonic.name(), name);
         count = count.saturating_add(1);
@@ -136,44 +136,49 @@ fn block_kinds_have_pins_and_cells(rt: HostRuntime) -> Result<(), Fail> {
     Ok(())
 }
 
-// One where there is something and its number is the one it was found by.
-fn found(rt: &impl Abort, number: u16, back: Option<u16>) -> Result<usize, Fail> {
-    match back {
-        Some(back) => {
-            assert_eq!(rt; back, number);
-            Ok(1)
-        }
-        None => Ok(0),
+// Whether there is something: its number is then the one it was found by.
+fn is_found(rt: &impl Abort, number: u16, back: Option<u16>) -> bool {
+    if let Some(back) = back {
+        assert_eq!(rt; back, number);
     }
+    back.is_some()
 }
 
 fn kind_number(number: u16) -> Option<u16> {
-    Some(Kind::numbered(number)?.number())
+    Some(Kind::try_from(number).ok()?.number())
 }
 
 fn mnemonic_number(number: u16) -> Option<u16> {
-    Some(Mnemonic::numbered(number)?.number())
+    Some(Mnemonic::try_from(number).ok()?.number())
+}
+
+fn nameless_number(number: u16) -> Option<u16> {
+    Some(Nameless::try_from(number).ok()?.number())
 }
 
 fn block_number(number: u16) -> Option<u16> {
     Some(Block::numbered(Edition::Series90, number)?.number())
 }
 
-// No other number stands for anything.
-#[test]
-fn numbers_are_undone(rt: HostRuntime) -> Result<(), Fail> {
-    let mut kinds = 0usize;
-    let mut mnemonics = 0usize;
-    let mut blocks = 0usize;
+// How many numbers stand for something: no other number does.
+fn count_found<F: Fn(u16) -> Option<u16>>(rt: &impl Abort, number_again: F) -> usize
+    requires { F.IsAlwaysCallable number_again }
+{
+    let mut count = 0usize;
     for number in 0..=u16::MAX {
-        kinds = kinds.saturating_add(found(&rt, number, kind_number(number))?);
-        mnemonics = mnemonics.saturating_add(found(&rt, number, mnemonic_number(number))?);
-        blocks = blocks.saturating_add(found(&rt, number, block_number(number))?);
+        if is_found(rt, number, number_again(number)) {
+            count = count.saturating_add(1);
+        }
     }
-    assert_eq!(rt; kinds, 11);
-    assert_eq!(rt; mnemonics, 34);
-    assert_eq!(rt; blocks, 7);
-    Ok(())
+    count
+}
+
+#[test]
+fn numbers_are_undone(rt: HostRuntime) {
+    assert_eq!(rt; count_found(&rt, kind_number), 11);
+    assert_eq!(rt; count_found(&rt, mnemonic_number), 34);
+    assert_eq!(rt; count_found(&rt, nameless_number), 3);
+    assert_eq!(rt; count_found(&rt, block_number), 7);
 }
 
 // The items whose argument is a word that stands in the text.

@@ -4,6 +4,7 @@ ghost use Rattle.std.specs.Prelude.{◌≡◌};
 
 use crate::plants::{modules, numbered};
 use bus::Bus;
+use decode::items::Items;
 use named::fitting::first_unfitted;
 use named::sets::named_points;
 use operand::edition::Edition;
@@ -68,11 +69,18 @@ fn items(heap: Global) -> Result<Vec<u16>, Fail> {
     Ok(words)
 }
 
+fn list(words: &[u16]) -> Items<'_> {
+    Items {
+        edition: Edition::Series90,
+        words,
+    }
+}
+
 fn ask<P: Plant>(plant: &P, items: &[u16], ms: u32) -> Result<(), Refusal> {
     if ms > 60_000 {
         return Err(Refusal::Late);
     }
-    first_unfitted(plant, Edition::Series90, items)?;
+    first_unfitted(plant, list(items))?;
     Ok(())
 }
 
@@ -92,7 +100,7 @@ fn check_set(rt: &impl Abort, set: &[bool; 192], points: &[usize; 3]) {
 #[test]
 fn lists_name_points(rt: HostRuntime) -> Result<(), Fail> {
     let items = items(rt.alloc())?;
-    let named = named_points(Edition::Series90, &items);
+    let named = named_points(list(&items));
     check_set(&rt, &named.inputs, &INPUTS);
     check_set(&rt, &named.outputs, &OUTPUTS);
     Ok(())

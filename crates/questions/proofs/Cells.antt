@@ -5,7 +5,7 @@ use Rattle.item.specs.declared.item.Item.{Item}
 use Rattle.item.specs.Items.{item_cells}
 use Rattle.image.specs.Images.{cells_sum}
 use Rattle.rule.specs.Automata.{known}
-use Rattle.rule.specs.Words.{items_from}
+use Rattle.decode.specs.Words.{items_from}
 use Rattle.marks.specs.Cells.{cells_asked, cells_before, all_cells}
 use Rattle.questions.proofs.Places.{at_place, behind_place, how_many}
 

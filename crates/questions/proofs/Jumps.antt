@@ -7,8 +7,8 @@ use Rattle.catalogue.specs.declared.Block.TheVariants.{Esv, Moa, RisingEdge, Ctu
 use Rattle.item.specs.declared.item.Item.{Item}
 use Rattle.item.specs.declared.item.Item.TheVariants.{Nop, Start, Open, Close, Operand, Operator, Compare, Assign, EndIf, Call, Kind, Pin, Direct, Mark, End}
 use Rattle.rule.specs.Automata.{known}
-use Rattle.rule.specs.Words.{item_at, items_from}
-use Rattle.rule.proofs.Passing.{items_more}
+use Rattle.decode.specs.Words.{item_at, items_from}
+use Rattle.decode.proofs.Places.{items_more}
 use Rattle.marks.specs.Places.{First}
 use Rattle.marks.specs.Marks.{next_mark, Next, Marked}
 use Rattle.marks.specs.Jumps.{jumps, direct_in, direct_at, target_at, astray_to, astray, missing, jump_fault}

@@ -5,7 +5,8 @@ use Rattle.item.specs.declared.item.Item.{Item}
 use Rattle.image.specs.Images.{item_words}
 use Rattle.decode.specs.Decoded.{Lawful, item_decoded}
 use Rattle.decode.proofs.Exact.{again, decoded_exactly}
-use Rattle.rule.specs.Automata.{items_of, known}
+use Rattle.rule.specs.Automata.{known}
+use Rattle.decode.specs.Words.{items_of}
 use Rattle.questions.specs.Everywhere.{Each}
 use Rattle.questions.specs.Known.{Known}
 

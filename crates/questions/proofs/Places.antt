@@ -3,8 +3,8 @@ use Rattle.std.proofs.Common.{◌≡◌, ℕ, zero, suc, ◌+◌, ◌/◌, ◌<�
 use Rattle.operand.specs.declared.edition.Edition.{Edition}
 use Rattle.item.specs.declared.item.Item.{Item}
 use Rattle.rule.specs.Automata.{known}
-use Rattle.rule.specs.Words.{item_at, items_from}
-use Rattle.rule.proofs.Passing.{items_more, items_all}
+use Rattle.decode.specs.Words.{item_at, items_from}
+use Rattle.decode.proofs.Places.{items_more, items_all}
 
 pub cons_head : {A : Type 0} {a b : A} {xs ys : List A} → (a ∷ xs) ≡ (b ∷ ys) → a ≡ b
 cons_head h = cc

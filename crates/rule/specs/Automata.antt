@@ -1,9 +1,7 @@
 -- A question over the items of a list, put to one item after another.
 use Rattle.std.specs.Prelude.{ℕ, ◌+◌, Bool, true, false, cond, List, [], ◌∷◌, Some, None, Option}
-use Rattle.operand.specs.declared.edition.Edition.{Edition}
 use Rattle.item.specs.declared.item.Item.{Item}
 use Rattle.item.specs.declared.item.Item.TheVariants.{Nop, Start, Open, Close, Operand, Operator, Compare, Assign, EndIf, Call, Kind, Pin, Direct, Mark, End}
-use Rattle.decode.specs.Decoded.{item_decoded}
 
 -- where it begins, what an item leads to (or is at fault), where the list may end
 pub record Automaton (S : Type 0) : Type 0 where
@@ -28,12 +26,6 @@ fault_from a (x ∷ xs) s p = fault_on p (λ t. fault_from a xs t (p + 1)) (step
 
 abbrev pub first_fault : {S : Type 0} → Automaton S → List (Option Item) → Option ℕ
 first_fault a xs = fault_from a xs a.start 0
-
--- the items that words stand for, two words each
-unfoldable pub items_of : Edition → List ℕ → List (Option Item)
-items_of e [] = []
-items_of e (n ∷ []) = []
-items_of e (n ∷ a ∷ ws) = item_decoded e n a ∷ items_of e ws
 
 abbrev pub then : {S : Type 0} → (S → Option S) → Option S → Option S
 then f None = None

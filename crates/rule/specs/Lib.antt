@@ -1,4 +1,3 @@
 pub mod Automata
-pub mod Words
 pub mod Pair
 pub mod Pairing

@@ -27,13 +27,10 @@ impl<A: Rule, B: Rule> Rule for Both<A, B> {
     }
 
     fn step(self, item: Item) -> Option<Self> {
-        let Some(one) = self.one.step(item) else {
-            return None;
-        };
-        let Some(two) = self.two.step(item) else {
-            return None;
-        };
-        Some(Both { one, two })
+        Some(Both {
+            one: self.one.step(item)?,
+            two: self.two.step(item)?,
+        })
     }
 
     fn ends(self) -> bool {

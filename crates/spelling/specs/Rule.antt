@@ -1,6 +1,7 @@
 -- What makes the spellings readable: no two are alike, none is empty, none holds a separator or a comma,
 -- none is a number; and each is read back as what it was written for, and as nothing else.
 use Rattle.std.specs.Prelude.{◌≡◌, ℕ, zero, suc, Bool, true, false, not, ◌&&◌, ◌||◌, List, [], ◌∷◌, ◌++◌, is_some, Some, None, codes, Option, ◌==◌}
+use Rattle.std.specs.List.{list_all}
 use Rattle.std.specs.Str.{bytes_eq}
 use Rattle.numeral.specs.Numerals.{written_as}
 use Rattle.operand.specs.declared.edition.Edition.TheVariants.{Series90}
@@ -29,13 +30,9 @@ spellings =
     ++ (spellings_below (Blocks.block_numbered Series90) Blocks.name_of 9
     ++ (codes ":=" ∷ [])))
 
-abbrev pub every : {A : Type 0} → (A → Bool) → List A → Bool
-every test [] = true
-every test (x ∷ xs) = test x && every test xs
-
 abbrev pub all_apart : List (List ℕ) → Bool
 all_apart [] = true
-all_apart (x ∷ xs) = every (λ y. not (bytes_eq x y)) xs && all_apart xs
+all_apart (x ∷ xs) = list_all (λ y. not (bytes_eq x y)) xs && all_apart xs
 
 abbrev pub is_empty : List ℕ → Bool
 is_empty [] = true
@@ -49,10 +46,10 @@ abbrev pub is_number : List ℕ → Bool
 is_number bs = is_some (written_as bs)
 
 abbrev pub readable : List ℕ → Bool
-readable bs = not (is_empty bs) && (every (λ c. not (cuts c)) bs && not (is_number bs))
+readable bs = not (is_empty bs) && (list_all (λ c. not (cuts c)) bs && not (is_number bs))
 
 abbrev pub Rule : Type 0
-Rule = (all_apart spellings && every readable spellings) ≡ true
+Rule = (all_apart spellings && list_all readable spellings) ≡ true
 
 -- each is read back from its own spelling
 pub record Back : Type 0 where

@@ -16,6 +16,11 @@ pub trait Spelled: Sized + Copy {
 
     ghost spelt: { Self → List ℕ };
 
+    ghost COUNT: { ℕ };
+
+    // One past the largest number in the table.
+    const COUNT: u16;
+
     fn with_number(edition: Edition, number: u16) -> Option<Self>
         ensures { result ≡ entry edition number };
 
@@ -28,8 +33,12 @@ impl Spelled for Mnemonic {
 
     ghost spelt = { Mnemonics.name_of };
 
+    ghost COUNT = { 52 };
+
+    const COUNT: u16 = 52;
+
     fn with_number(_edition: Edition, number: u16) -> Option<Self> {
-        Mnemonic::numbered(number)
+        Mnemonic::try_from(number).ok()
     }
 
     fn spelling(self) -> &'static str {
@@ -42,8 +51,12 @@ impl Spelled for Kind {
 
     ghost spelt = { letters_of };
 
+    ghost COUNT = { 11 };
+
+    const COUNT: u16 = 11;
+
     fn with_number(_edition: Edition, number: u16) -> Option<Self> {
-        Kind::numbered(number)
+        Kind::try_from(number).ok()
     }
 
     fn spelling(self) -> &'static str {
@@ -55,6 +68,10 @@ impl Spelled for Block {
     ghost entry = { Blocks.block_numbered };
 
     ghost spelt = { Blocks.name_of };
+
+    ghost COUNT = { 9 };
+
+    const COUNT: u16 = 9;
 
     fn with_number(edition: Edition, number: u16) -> Option<Self> {
         Block::numbered(edition, number)

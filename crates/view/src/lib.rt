@@ -4,6 +4,8 @@
 ghost use Rattle.std.specs.Prelude.{◌≡◌, ◌≤◌, true, length};
 ghost use Rattle.view.specs.Trailers.{from_end, has_trailer, sizes_fit, Opens, InTurn};
 
+use constants::decode::Constants;
+use decode::items::Items;
 use image::write::{IDENTIFIER, MOST_CONSTANTS, MOST_ITEMS};
 use operand::edition::Edition;
 
@@ -17,6 +19,28 @@ pub struct Image<'a> {
     pub constants: &'a [u16],
     // the history cells that the trailer tells
     pub cells: u16,
+}
+
+impl<'a> Image<'a> {
+    pub fn items(self) -> Items<'a>
+        ensures edition { result.edition ≡ self.entry.edition }
+        ensures words { result.words.now ≡ self.entry.items.now }
+    {
+        Items {
+            edition: self.edition,
+            words: self.items,
+        }
+    }
+
+    pub fn constants(self) -> Constants<'a>
+        ensures edition { result.edition ≡ self.entry.edition }
+        ensures words { result.words.now ≡ self.entry.constants.now }
+    {
+        Constants {
+            edition: self.edition,
+            words: self.constants,
+        }
+    }
 }
 
 #[derive(Clone, Copy)]
@@ -61,7 +85,7 @@ pub fn view_image<'a>(words: &'a [u16]) -> Result<Image<'a>, OpenRefusal>
     if !is_image(words) {
         return Err(OpenRefusal::NoTrailer);
     }
-    let Some(edition) = Edition::numbered(trailer_word(words, 2)) else {
+    let Ok(edition) = Edition::try_from(trailer_word(words, 2)) else {
         return Err(OpenRefusal::NoEdition);
     };
     if !fits(words) {

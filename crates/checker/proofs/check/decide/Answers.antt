@@ -1,4 +1,4 @@
-use Rattle.std.proofs.Common.{◌≡◌, ◌/◌, length, None, Err, ap, ◌∙◌, arith}
+use Rattle.std.proofs.Common.{◌≡◌, length, None, Err, ap, ◌∙◌, arith}
 use Rattle.std.proofs.lemmas.Result.{err_from_is_err_and}
 use Rattle.view.specs.Trailers.{items_in}
 use Rattle.checker.specs.Verdict.{answered, passed}
@@ -18,13 +18,13 @@ returns-in_err-judge c =
 pub overflow_cast-result : goal.overflow_cast-result
 overflow_cast-result c =
     let v = c.in_ok-image.ensures.opens in
-    let n = ap length v.3 ∙ item_length c.args.words.now v.2 in
+    let n = ap length (c.items.ensures.words ∙ v.3) ∙ item_length c.args.words.now v.2 in
     let f = few_items c.args.words.now v.2 in
     omega arith
 
 pub returns : goal.returns
 returns c =
     let v = c.in_ok-image.ensures.opens in
-    let n = ap length v.3 ∙ item_length c.args.words.now v.2 in
-    let half : length c.in_ok-image.image.items.now / 2 ≡ items_in c.args.words.now = omega arith in
+    let n = ap length (c.items.ensures.words ∙ v.3) ∙ item_length c.args.words.now v.2 in
+    let half : c.len.result ≡ items_in c.args.words.now = omega arith in
     (λ i. passed (half i) (v.5 i)) ∙ opened_to c.args.words.now c.in_ok-image.image v None c.in_ok-judge.ensures

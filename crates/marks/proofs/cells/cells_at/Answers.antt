@@ -1,13 +1,9 @@
-use Rattle.std.proofs.Common.{◌≡◌, ◌+◌, ◌%◌, ◌<◌, length, get_or, ap, ◌∙◌, arith}
-use Rattle.decode.specs.Decoded.{item_decoded}
-use Rattle.marks.specs.Cells.{cells_asked, cells_until}
-use Rattle.marks.proofs.Sums.{one_more}
+use Rattle.std.proofs.Common.{◌+◌, ◌*◌, get_or, sym, refl, ◌∙◌}
+use Rattle.marks.specs.Cells.{cells_asked}
+use Rattle.marks.proofs.Numbers.{unless, no_cells}
 use Rattle.marks.proofs.cells.cells_at.Goals as goal
 
-pub returns : goal.returns
-returns c =
-    let ws = c.args.items.now in
-    let i = c.args.index in
-    let even : i % 2 ≡ 0 = omega arith in
-    let room : i + 1 < length ws = omega arith in
-    record { turn = ap (λ n. cells_until c.args.edition ws i + n) (c.cells_asked.ensures.value ∙ ap (λ n. cells_asked (item_decoded c.args.edition n (get_or ws (i + 1) 0))) c.requires.1) ∙ one_more c.args.edition ws i even room; bound = c.cells_asked.ensures.bound }
+pub returns-then-number-ne-KIND-clause-value : goal.returns-then-number-ne-KIND-clause-value
+returns-then-number-ne-KIND-clause-value c =
+    let argument = get_or c.args.items.words.now (2 * c.args.place + 1) 0 in
+    sym (unless cells_asked 0 41 refl no_cells c.args.items.edition _ argument (λ q. c.if-number-ne-KIND.true (c.requires.1 ∙ q)))

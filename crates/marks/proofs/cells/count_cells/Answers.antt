@@ -1,9 +1,14 @@
-use Rattle.std.proofs.Common.{◌≡◌, ◌+◌, ◌/◌, min, length, ap, ◌∙◌, arith}
-use Rattle.marks.specs.Cells.{cells_before}
+use Rattle.std.proofs.Common.{◌/◌, ◌<◌, [], length, get_or, ap, ◌∙◌, arith}
+use Rattle.marks.proofs.Sums.{number_at, none_yet, one_more}
 use Rattle.marks.proofs.cells.count_cells.Goals as goal
 
-pub returns : goal.returns
-returns c =
-    let n = length c.args.items.now in
-    let all : min ((n + 1) / 2) (n / 2) ≡ n / 2 = omega arith in
-    c.sum_cells.ensures ∙ ap (cells_before c.args.edition c.args.items.now) all
+pub loop-place-init : goal.loop-place-init
+loop-place-init c = record { sum = none_yet _ _; few = omega arith }
+
+pub cells_at-cells-requires : goal.cells_at-cells-requires
+cells_at-cells-requires c =
+    let within : c.loop-place.place < length c.args.items.words.now / 2 = omega arith in
+    (within, ap (λ ps. get_or (get_or ps c.loop-place.place []) 0 0) c.as_chunks.ensures.front ∙ number_at _ _ _ within)
+
+pub loop-place-preserved : goal.loop-place-preserved
+loop-place-preserved c = record { sum = one_more _ _ _ _ _ c.loop-place.invariant.sum c.cells_at-cells.ensures.value; few = omega arith }
