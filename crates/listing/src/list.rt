@@ -1,20 +1,19 @@
 // Listing an image into a lent buffer.
-ghost use Rattle.std.specs.Prelude.{◌≡◌, ◌+◌, ◌/◌, ◌<◌, length};
+ghost use Rattle.std.specs.Prelude.{◌≡◌, length};
 ghost use Rattle.checker.specs.Verdict.{seen};
 ghost use Rattle.lay.specs.Lays.{Lays, Puts};
-ghost use Rattle.listing.specs.Lines.{line_of, item_line, constant_line, item_lines, constant_lines, listing_of};
+ghost use Rattle.listing.specs.Lines.{line_of, item_lines, constant_lines, listing_of};
 ghost use Rattle.listing.specs.Listed.{answered, due_for, fitted, left_by, text_of, Opened};
 ghost use Rattle.constants.specs.Decoded.{constants_of};
-ghost use Rattle.constants.specs.Lawful.{constant_at};
+ghost use Rattle.decode.specs.Words.{items_of};
 ghost use Rattle.decode.specs.Words.{items_of, item_at};
 
 use crate::refusal::ListRefusal;
 use checker::check::judge_known;
 use checker::refusal::CheckRefusal;
-use constants::decode::decode_constant;
-use decode::decode_item;
+use constants::decode::Constants;
+use decode::items::Items;
 use lay::pen::Pen;
-use operand::edition::Edition;
 use script::Script;
 use view::{Image, view_image};
 
@@ -30,51 +29,27 @@ fn put_line<T: Script>(pen: &mut Pen, entry: Option<T>)
     }
 }
 
-fn put_item_at(pen: &mut Pen, edition: Edition, items: &[u16], place: usize)
-    requires { place < length items.now / 2 }
-    ensures { Puts pen.old (item_line (item_at edition items.now place)) pen.new }
+fn put_items(pen: &mut Pen, items: Items)
+    ensures { Puts pen.old (item_lines (items_of items.entry.edition items.entry.words.now)) pen.new }
 {
-    put_line(
-        pen,
-        decode_item(edition, items[2 * place], items[2 * place + 1]),
-    );
-}
-
-fn put_constant_at(pen: &mut Pen, edition: Edition, constants: &[u16], place: usize)
-    requires { place < length constants.now / 3 }
-    ensures { Puts pen.old (constant_line (constant_at edition constants.now place)) pen.new }
-{
-    let first = 3 * place;
-    let constant = decode_constant(
-        edition,
-        constants[first],
-        constants[first + 1],
-        constants[first + 2],
-    );
-    put_line(pen, constant);
-}
-
-fn put_items(pen: &mut Pen, edition: Edition, items: &[u16])
-    ensures { Puts pen.old (item_lines (items_of edition items.now)) pen.new }
-{
-    for place in 0..items.len() / 2 {
-        put_item_at(pen, edition, items, place);
+    for item in items {
+        put_line(pen, item);
     }
 }
 
-fn put_constants(pen: &mut Pen, edition: Edition, constants: &[u16])
-    ensures { Puts pen.old (constant_lines (constants_of edition constants.now)) pen.new }
+fn put_constants(pen: &mut Pen, constants: Constants)
+    ensures { Puts pen.old (constant_lines (constants_of constants.entry.edition constants.entry.words.now)) pen.new }
 {
-    for place in 0..constants.len() / 3 {
-        put_constant_at(pen, edition, constants, place);
+    for constant in constants {
+        put_line(pen, constant);
     }
 }
 
 fn put_listing(pen: &mut Pen, image: Image)
     ensures { Puts pen.old (listing_of (seen image.entry)) pen.new }
 {
-    put_items(pen, image.edition, image.items);
-    put_constants(pen, image.edition, image.constants);
+    put_items(pen, image.items());
+    put_constants(pen, image.constants());
 }
 
 // Writes the listing first into the buffer, as far as it finds room, and tells how long it is.

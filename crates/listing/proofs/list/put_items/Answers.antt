@@ -1,13 +1,10 @@
-use Rattle.std.proofs.Common.{arith}
 use Rattle.lay.proofs.Joins.{then, nothing, puts_as}
-use Rattle.listing.proofs.Loops.{item_more, no_items, all_items}
+use Rattle.script.specs.Texts.{item_text}
+use Rattle.listing.proofs.Loops.{no_lines, one_more}
 use Rattle.listing.proofs.list.put_items.Goals as goal
 
-pub loop-place-init : goal.loop-place-init
-loop-place-init c = puts_as (no_items c.args.edition c.args.items.now) (nothing c.args.pen.now)
+pub loop-item-init : goal.loop-item-init
+loop-item-init c = puts_as (no_lines item_text) (nothing c.args.pen.now)
 
-pub loop-place-preserved : goal.loop-place-preserved
-loop-place-preserved c = puts_as (item_more c.args.edition c.args.items.now c.loop-place.place) (then c.loop-place.invariant c.put_item_at.ensures)
-
-pub returns : goal.returns
-returns c = puts_as (all_items c.args.edition c.args.items.now c.loop-place.place (omega arith)) c.loop-place.invariant
+pub loop-item-preserved : goal.loop-item-preserved
+loop-item-preserved c = puts_as (one_more item_text _ _) (then c.loop-item.invariant c.put_line.ensures)

@@ -1,6 +1,6 @@
 use Rattle.lay.specs.Lays.{Puts}
-use Rattle.listing.specs.Lines.{item_lines_before}
+use Rattle.listing.specs.Lines.{item_lines}
 use Rattle.listing.proofs.list.put_items.Given as goal
 
-abbrev pub invariant-loop-place : goal.invariant-loop-place
-invariant-loop-place l = Puts l.initial.pen (item_lines_before l.edition l.items l.place) l.pen
+abbrev pub invariant-loop-item : goal.invariant-loop-item
+invariant-loop-item l = Puts l.initial.pen (item_lines l.yielded) l.pen
