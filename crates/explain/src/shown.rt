@@ -3,7 +3,7 @@ ghost use Rattle.explain.specs.Shown.{explanation, item_shown, place_shown, toke
 ghost use Rattle.lay.specs.Lays.{Lays, Puts};
 
 use crate::words::question_words;
-use decode::decode_item;
+use decode::items::Items;
 use lay::pen::Pen;
 use operand::edition::Edition;
 use script::Script;
@@ -27,10 +27,14 @@ fn put_token(pen: &mut Pen, text: &[u8], place: usize)
 fn put_shown(pen: &mut Pen, items: &[u16], place: usize)
     ensures { Puts pen.old (item_shown items.now place) pen.new }
 {
-    if place >= items.len() / 2 {
+    let items = Items {
+        edition: Edition::Series90,
+        words: items,
+    };
+    if place >= items.len() {
         return pen.put_text("the end of the list");
     }
-    match decode_item(Edition::Series90, items[2 * place], items[2 * place + 1]) {
+    match items.get(place) {
         Some(item) => item.put_on(pen),
         None => pen.put_text("an unknown item"),
     }
