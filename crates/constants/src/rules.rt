@@ -1,6 +1,6 @@
 // Which constants may stand behind a list, and in which order.
 ghost use Rattle.std.specs.Prelude.{◌≡◌};
-ghost use Rattle.constants.specs.Rules.{above, reserved, constant_fits, constant_kind};
+ghost use Rattle.constants.specs.Rules.{above, constant_fits, constant_kind};
 ghost use Rattle.operand.specs.Codes.{code_of};
 
 use operand::edition::{Range, in_ranges};
@@ -14,34 +14,22 @@ static RESERVED: [Range; 1] = [Range {
     last: 15,
 }];
 
-fn reserved_ranges() -> &'static [Range]
-    ensures { result.now ≡ reserved }
-{
-    &RESERVED
-}
-
 fn rises(last: Option<Operand>, operand: Operand) -> bool
     ensures { result ≡ above last (code_of operand) }
 {
-    match last {
-        Some(before) => before.code() < operand.code(),
-        None => true,
-    }
+    last.is_none_or(|before| before.code() < operand.code())
 }
 
 // Whether a constant may stand behind the last one: codes rise strictly, and some places are reserved.
 pub fn may_follow(last: Option<Operand>, operand: Operand) -> bool
     ensures { result ≡ constant_fits last operand }
 {
-    rises(last, operand) && !in_ranges(reserved_ranges(), operand.kind, operand.place())
+    rises(last, operand) && !in_ranges(&RESERVED, operand.kind, operand.place())
 }
 
 // Whether the operands of a kind are constants of a list.
 pub fn is_constant(kind: Kind) -> bool
     ensures { result ≡ constant_kind kind }
 {
-    match kind {
-        Kind::ConstantWord | Kind::ConstantDouble => true,
-        _ => false,
-    }
+    matches!(kind, Kind::ConstantWord | Kind::ConstantDouble)
 }

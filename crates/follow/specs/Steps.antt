@@ -1,15 +1,11 @@
 -- Reading a list token by token: which token fits the one before, and what it adds to the list.
-use Rattle.std.specs.Prelude.{ℕ, zero, suc, ◌-◌, Bool, true, false, cond, not, ◌&&◌, List, [], ◌∷◌, length, ℤ, pos, negsuc, Some, None, Option, nat_le, nat_lt}
+use Rattle.std.specs.Prelude.{ℕ, zero, suc, ◌-◌, Bool, true, false, cond, length, ℤ, pos, negsuc, Some, None, Option, nat_le}
 use Rattle.operand.specs.declared.edition.Edition.{Edition}
 use Rattle.operand.specs.declared.kind.Kind.{Kind}
-use Rattle.operand.specs.declared.kind.Kind.TheVariants as Of
-use Rattle.operand.specs.declared.kind.Size.{Size}
-use Rattle.operand.specs.declared.kind.Size.TheVariants.{Bit, Word, Double}
 use Rattle.operand.specs.declared.operand.Operand.{Operand}
 use Rattle.operand.specs.Kinds.{size_of}
-use Rattle.operand.specs.Ranges.{any_holds}
-use Rattle.operand.specs.Codes.{place_of, code_of, operand_at}
-use Rattle.operand.specs.declared.edition.Range.{Range}
+use Rattle.operand.specs.Codes.{operand_at}
+use Rattle.constants.specs.Rules.{constant_fits, constant_kind, least, most}
 use Rattle.catalogue.specs.declared.Block.{Block}
 use Rattle.catalogue.specs.Blocks.{pins_of}
 use Rattle.item.specs.declared.mnemonic.Form.{Form}
@@ -25,13 +21,17 @@ use Rattle.follow.specs.declared.state.State.{State}
 use Rattle.follow.specs.declared.state.Put.{Put}
 use Rattle.follow.specs.declared.state.Step.{Step}
 
+-- something is put, and the next token is asked for something
+abbrev pub put_then : State → Put → Asks → Step
+put_then s p a = record { put = p; state = record { asks = a; pins = s.pins; last = s.last } }
+
 -- a token that only asks something of the next one
 abbrev pub asking : State → Asks → Step
-asking s a = record { put = Put.Nothing; state = record { asks = a; pins = s.pins; last = s.last } }
+asking s a = put_then s Put.Nothing a
 
 -- an item is complete
 abbrev pub item_done : State → Item → Step
-item_done s i = record { put = Put.Item i; state = record { asks = Asks.Entry; pins = s.pins; last = s.last } }
+item_done s i = put_then s (Put.Item i) Asks.Entry
 
 -- one pin less is to come
 abbrev pub pin_done : State → Item → Step
@@ -39,7 +39,7 @@ pin_done s i = record { put = Put.Item i; state = record { asks = Asks.Entry; pi
 
 -- an item is put, and more may follow it
 abbrev pub item_then : State → Item → Asks → Step
-item_then s i a = record { put = Put.Item i; state = record { asks = a; pins = s.pins; last = s.last } }
+item_then s i a = put_then s (Put.Item i) a
 
 -- what a mnemonic begins
 abbrev pub begun : State → Mnemonic → Step
@@ -72,7 +72,7 @@ entry s unknown = None
 
 -- the number of a call: 0 to 999, without a minus
 abbrev pub call_number : State → Written → Option Step
-call_number s (plain n) = cond (nat_le n 999) (Some (record { put = Put.CallNumber n; state = record { asks = Asks.Entry; pins = s.pins; last = s.last } })) None
+call_number s (plain n) = cond (nat_le n 999) (Some (put_then s (Put.CallNumber n) Asks.Entry)) None
 call_number s (minus n) = None
 
 -- after `!BA` a number may stand, else any item may begin
@@ -125,19 +125,6 @@ abbrev pub term : State → ℕ → Operand → Step
 term s zero o = item_done s (Item.Operand o)
 term s (suc n) o = pin_done s (Item.Pin o)
 
--- the code of the constant before; constants rise
-abbrev pub above : Option Operand → ℕ → Bool
-above None code = true
-above (Some o) code = nat_lt (code_of o) code
-
--- KW 00,13 to 00,15 are reserved
-abbrev pub reserved : List Range
-reserved = record { kind = Of.ConstantWord; first = 13; last = 15 } ∷ []
-
--- a constant that may stand after the one before
-abbrev pub constant_fits : Option Operand → Operand → Bool
-constant_fits last o = above last (code_of o) && not (any_holds reserved o.kind (place_of o))
-
 -- what an operand is read for
 abbrev pub used : State → Role → Operand → Option Step
 used s For.Term o = Some (term s s.pins o)
@@ -161,20 +148,6 @@ abbrev pub mark : State → Option ℤ → Option Step
 mark s None = None
 mark s (Some z) = Some (item_done s (Item.Mark (word_bits z)))
 
--- only KW and KD are constants
-abbrev pub constant_kind : Kind → Bool
-constant_kind Of.Input = false
-constant_kind Of.Output = false
-constant_kind Of.Marker = false
-constant_kind Of.Step = false
-constant_kind Of.Constant = false
-constant_kind Of.InputWord = false
-constant_kind Of.OutputWord = false
-constant_kind Of.MarkerWord = false
-constant_kind Of.ConstantWord = true
-constant_kind Of.MarkerDouble = false
-constant_kind Of.ConstantDouble = true
-
 abbrev pub constant : State → Option Kind → Option Step
 constant s None = None
 constant s (Some k) = cond (constant_kind k) (Some (asking s (Asks.Address For.Constant k))) None
@@ -187,17 +160,6 @@ defined s o define = Some (asking s (Asks.Value o))
 defined s o (number w) = None
 defined s o (pair g c) = None
 defined s o unknown = None
-
--- the lawful values of a size
-abbrev pub least : Size → ℤ
-least Bit = pos 0
-least Word = negsuc 32766
-least Double = negsuc 2147483646
-
-abbrev pub most : Size → ℤ
-most Bit = pos 1
-most Word = pos 32767
-most Double = pos 2147483647
 
 -- a constant is complete
 abbrev pub constant_done : State → Operand → ℤ → Step

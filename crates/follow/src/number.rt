@@ -13,7 +13,7 @@ use operand::operand::{Operand, operand_at};
 use token::token::{Placed, Token};
 
 // A token that does not fit the one before, by its byte place.
-#[derive(Clone, Copy)]
+#[derive(Clone, Copy, Debug, PartialEq, Eq)]
 pub struct Misfit {
     pub place: usize,
 }
@@ -21,12 +21,8 @@ pub struct Misfit {
 fn operand_of(edition: Edition, kind: Kind, group: &[u8], channel: &[u8]) -> Option<Operand>
     ensures { result ≡ operand_in edition kind (pair_or (natural group.now) (natural channel.now)) }
 {
-    let Some(group) = read_natural(group, 255) else {
-        return None;
-    };
-    let Some(channel) = read_natural(channel, 15) else {
-        return None;
-    };
+    let group = read_natural(group, 255)?;
+    let channel = read_natural(channel, 15)?;
     operand_at(edition, kind, group as u8, channel as u8)
 }
 
@@ -34,44 +30,31 @@ fn operand_of(edition: Edition, kind: Kind, group: &[u8], channel: &[u8]) -> Opt
 pub fn read_operand(edition: Edition, kind: Kind, placed: Placed) -> Result<Operand, Misfit>
     ensures { result ≡ fitting placed.entry.place (operand_in edition kind (meaning placed.entry.token)) }
 {
+    let place = placed.place;
     let Token::Pair(group, channel) = placed.token else {
-        return Err(Misfit {
-            place: placed.place,
-        });
+        return Err(Misfit { place });
     };
-    let Some(operand) = operand_of(edition, kind, group, channel) else {
-        return Err(Misfit {
-            place: placed.place,
-        });
-    };
-    Ok(operand)
+    operand_of(edition, kind, group, channel).ok_or(Misfit { place })
 }
 
 // The number from `low` to `high` that a token is.
 pub fn read_number(placed: Placed, low: i32, high: i32) -> Result<i32, Misfit>
     ensures { result ≡ fitting placed.entry.place (value_in low high (meaning placed.entry.token)) }
 {
+    let place = placed.place;
     let Token::Number(digits) = placed.token else {
-        return Err(Misfit {
-            place: placed.place,
-        });
+        return Err(Misfit { place });
     };
-    let Some(value) = read_value(digits, low, high) else {
-        return Err(Misfit {
-            place: placed.place,
-        });
-    };
-    Ok(value)
+    read_value(digits, low, high).ok_or(Misfit { place })
 }
 
 // The kind that letters stand for.
 pub fn read_letters(placed: Placed) -> Result<Kind, Misfit>
     ensures { result ≡ fitting placed.entry.place (kind_in (meaning placed.entry.token)) }
 {
+    let place = placed.place;
     let Token::Letters(_, kind) = placed.token else {
-        return Err(Misfit {
-            place: placed.place,
-        });
+        return Err(Misfit { place });
     };
     Ok(kind)
 }

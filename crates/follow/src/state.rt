@@ -6,7 +6,7 @@ use operand::kind::Kind;
 use operand::operand::Operand;
 
 // What an operand is read for.
-#[derive(Clone, Copy)]
+#[derive(Clone, Copy, Debug, PartialEq, Eq)]
 pub enum Role {
     // a term of a sentence, or a pin while the block named last has pins to come
     Term,
@@ -17,7 +17,7 @@ pub enum Role {
 }
 
 // What the token before asks of the next one.
-#[derive(Clone, Copy)]
+#[derive(Clone, Copy, Debug, PartialEq, Eq)]
 pub enum Asks {
     // nothing: any item may begin
     Entry,
@@ -37,7 +37,7 @@ pub enum Asks {
     Value(Operand),
 }
 
-#[derive(Clone, Copy)]
+#[derive(Clone, Copy, Debug, PartialEq, Eq)]
 pub struct State {
     pub asks: Asks,
     // the pins that the block named last still takes

@@ -1,5 +1,5 @@
 -- One token further in a text.
-use Rattle.std.proofs.Common.{◌≡◌, ℕ, ◌+◌, ◌<◌, ◌≤◌, true, false, List, map, length, get_or, drop, Ok, Err, Option, sym, ap, ◌∙◌}
+use Rattle.std.proofs.Common.{◌≡◌, ℕ, ◌+◌, ◌<◌, ◌≤◌, true, false, List, map, length, get_or, drop, Ok, Err, Option, Result, sym, ap, ◌∙◌, subst}
 use Rattle.std.proofs.lemmas.List.{at_drop_more, at_drop_all}
 use Rattle.std.proofs.lemmas.Bool.{cond-true, cond-false}
 use Rattle.operand.specs.declared.edition.Edition.{Edition}
@@ -11,7 +11,11 @@ use Rattle.follow.specs.declared.number.Misfit.{Misfit}
 use Rattle.follow.specs.declared.state.Step.{Step}
 use Rattle.follow.specs.Fits.{fitting}
 use Rattle.follow.specs.Steps.{next_step, may_end}
-use Rattle.reader.specs.Reading.{Read, Outcome, list, misfit, items_after, constants_after, go_on, ended, read_on}
+use Rattle.reader.specs.declared.read.Program.{Program}
+use Rattle.reader.specs.declared.read.ReadRefusal.{ReadRefusal}
+use Rattle.reader.specs.declared.read.ReadRefusal.TheVariants.{Misplaced}
+use Rattle.std.specs.Result.{IsErrAnd}
+use Rattle.reader.specs.Reading.{Read, Outcome, Reads, list, misfit, items_after, constants_after, go_on, ended, read_on}
 use Rattle.follow.proofs.Fitted.{fitted, unfitted}
 
 abbrev next_of : Edition → Read → Placed → Option Step
@@ -44,3 +48,8 @@ module _ (e : Edition) (end : ℕ) (ps : List Placed) (i : ℕ) (r : Read) (all 
 
   pub missing : length ps ≤ i → false ≡ may_end r.state.asks → all ≡ misfit end
   missing l h = at_end l ∙ cond-false _ _ _ (sym h)
+
+-- what `?` makes of a token that does not fit
+pub refused : (o : Outcome) (place : ℕ) (r : Result Program ReadRefusal) → o ≡ misfit place → IsErrAnd r (λ e. e ≡ Misplaced place) → Reads o r
+refused o place (Ok p) h k = absurd k
+refused o place (Err e) h k = subst (λ x. Reads o (Err x)) (sym k) h

@@ -1,4 +1,3 @@
 pub mod Steps
 pub mod Theorem
 pub mod Commas
-pub mod Turns

@@ -1,22 +1,58 @@
 -- One byte further in a text.
-use Rattle.std.proofs.Common.{◌≡◌, ℕ, suc, ◌+◌, ◌-◌, ◌<◌, ◌≤◌, Bool, true, false, cond, List, [], ◌∷◌, length, get_or, take, drop, sym, refl, ap, ◌∙◌, subst, add-one, arith, length-drop}
-use Rattle.std.proofs.lemmas.List.{drop_more, drop-drop, at_drop_all}
+use Rattle.std.proofs.Common.{◌≡◌, ℕ, suc, ◌+◌, ◌-◌, ◌<◌, ◌≤◌, Bool, true, false, cond, not, unwrap_or, Some, None, List, [], ◌∷◌, length, get_or, take, drop, sym, refl, ap, ◌∙◌, subst, add-one, arith, length-drop}
+use Rattle.std.specs.List.{position, position_or_len}
+use Rattle.std.proofs.lemmas.List.Quantifiers.{position-Some}
+use Rattle.std.proofs.lemmas.List.Recursion.{is_position_or_len}
+use Rattle.std.proofs.lemmas.List.Sums.{prefix_len-le-length}
+use Rattle.std.proofs.lemmas.Bool.{not-true}
+use Rattle.std.proofs.lemmas.Bool.Decides.{nat_tests}
+use Rattle.std.proofs.lemmas.List.{drop_more, drop-drop, at_drop_all, get_or-drop}
 use Rattle.character.specs.Classes.{is_separator}
 use Rattle.token.specs.Cuts.{parts_of, extend}
 use Rattle.token.specs.Runs.{run_length}
 
-pub skip_step : (bs : List ℕ) (i : ℕ) → i < length bs → true ≡ is_separator (get_or bs i 0) → parts_of i (drop i bs) ≡ parts_of (i + 1) (drop (i + 1) bs)
-skip_step bs i l h = rw (drop_more bs i 0 l, sym h, add-one) refl
+abbrev in_part : ℕ → Bool
+in_part c = not (is_separator c)
 
--- one byte more of a run
-pub run_step : (bs : List ℕ) (i : ℕ) → i < length bs → false ≡ is_separator (get_or bs i 0) → i + 1 + run_length (drop (i + 1) bs) ≡ i + run_length (drop i bs)
-run_step bs i l h = rw (drop_more bs i 0 l, sym h) (omega arith)
+-- the separators in front are passed over
+skips : (p : ℕ) (bs : List ℕ) → parts_of p bs ≡ parts_of (p + position_or_len in_part bs) (drop (position_or_len in_part bs) bs)
+skips p [] = refl
+skips p (c ∷ cs) = by (is_separator c) refl (skips (suc p) cs)
+  where
+    by : (b : Bool) → is_separator c ≡ b → parts_of (suc p) cs ≡ parts_of (suc p + position_or_len in_part cs) (drop (position_or_len in_part cs) cs) → parts_of p (c ∷ cs) ≡ parts_of (p + position_or_len in_part (c ∷ cs)) (drop (position_or_len in_part (c ∷ cs)) (c ∷ cs))
+    by true e h =
+        let k : ℕ = position_or_len in_part cs in
+        let n : position_or_len in_part (c ∷ cs) ≡ suc k = rw e (omega arith) in
+        let first : parts_of p (c ∷ cs) ≡ parts_of (suc p) cs = rw e refl in
+        rw n (first ∙ h ∙ ap (λ q. parts_of q (drop k cs)) (omega arith))
+    by false e h =
+        let n : position_or_len in_part (c ∷ cs) ≡ 0 = rw e refl in
+        rw n (ap (λ q. parts_of q (c ∷ cs)) (omega arith))
 
-pub run_stop : (bs : List ℕ) (i : ℕ) → i < length bs → true ≡ is_separator (get_or bs i 0) → run_length (drop i bs) ≡ 0
-run_stop bs i l h = rw (drop_more bs i 0 l, sym h) refl
+-- where the next part begins
+module _ (bs rest : List ℕ) (from : ℕ) (is : rest ≡ drop from bs) where
+  pub none_left : None ≡ position in_part rest → parts_of from (drop from bs) ≡ []
+  none_left h =
+      let past : length rest ≤ position_or_len in_part rest = grind (arith, nat_tests) in
+      ap (parts_of from) (sym is) ∙ skips from rest ∙ at_drop_all (parts_of (from + position_or_len in_part rest)) rest (position_or_len in_part rest) past
 
-pub run_none : (bs : List ℕ) (i : ℕ) → length bs ≤ i → run_length (drop i bs) ≡ 0
-run_none bs i l = at_drop_all run_length bs i l
+  pub next_begins : (n : ℕ) → Some n ≡ position in_part rest → (parts_of from (drop from bs) ≡ parts_of (from + n) (drop (from + n) bs)) × (from + n < length bs) × (is_separator (get_or bs (from + n) 0) ≡ false)
+  next_begins n h =
+      let at : n ≡ position_or_len in_part rest = grind (arith, nat_tests) in
+      let there = position-Some in_part rest n 0 (sym h) in
+      let behind : drop n rest ≡ drop (from + n) bs = ap (drop n) is ∙ drop-drop n from bs in
+      let same : parts_of from rest ≡ parts_of (from + n) (drop n rest) = skips from rest ∙ ap (λ k. parts_of (from + k) (drop k rest)) (sym at) in (
+        ap (parts_of from) (sym is) ∙ same ∙ ap (parts_of (from + n)) behind,
+        omega (arith, there.0, ap length is, length-drop from bs),
+        ap is_separator (sym (ap (λ xs. get_or xs n 0) is ∙ get_or-drop from bs n 0)) ∙ not-true _ there.1,
+      )
+
+-- how many bytes in front are no separators, as a search for the first separator finds it
+pub run_is : (bs : List ℕ) → unwrap_or (position is_separator bs) (length bs) ≡ run_length bs
+run_is bs =
+    let n : run_length bs ≡ position_or_len is_separator bs = is_position_or_len run_length is_separator refl (λ x xs. ap (cond (is_separator x) 0) (omega arith)) bs in
+    let most = prefix_len-le-length (λ x. not (is_separator x)) bs in
+    grind (arith, nat_tests)
 
 pub run_fits : (bs : List ℕ) → run_length bs ≤ length bs
 run_fits [] = omega arith
@@ -41,9 +77,6 @@ parts_run p c (d ∷ ds) h = by_next (is_separator d) refl (parts_run (suc p) d 
         let first : parts_of p (c ∷ d ∷ ds) ≡ extend p c (parts_of (suc p) (d ∷ ds)) = simp (h, e) in
         let shift : suc p + suc (run_length ds) ≡ p + suc (suc (run_length ds)) = omega arith in
         first ∙ ap (extend p c) (more e) ∙ simp (h, e, shift)
-
-pub no_parts : (bs : List ℕ) (from start : ℕ) → parts_of from (drop from bs) ≡ parts_of start (drop start bs) → length bs ≤ start → parts_of from (drop from bs) ≡ []
-no_parts bs from start e l = e ∙ at_drop_all (parts_of start) bs start l
 
 -- where the run from `start` on ends
 pub run_within : (bs : List ℕ) (start end : ℕ) → start < length bs → end ≡ start + run_length (drop start bs) → end ≤ length bs

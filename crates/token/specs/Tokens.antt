@@ -1,6 +1,8 @@
 -- What a part of the text stands for.
-use Rattle.std.specs.Prelude.{ℕ, cond, List, [], ◌∷◌, map, Some, None, codes, Option, ◌==◌}
+use Rattle.std.specs.Prelude.{ℕ, cond, List, [], ◌∷◌, map, Some, None, codes, Option}
+use Rattle.std.specs.List.{before_first, after_first}
 use Rattle.std.specs.Str.{bytes_eq}
+use Rattle.character.specs.Classes.{is_comma}
 use Rattle.operand.specs.declared.edition.Edition.{Edition}
 use Rattle.operand.specs.declared.kind.Kind.{Kind}
 use Rattle.catalogue.specs.declared.Block.{Block}
@@ -21,12 +23,10 @@ pub data Tok : Type 0 where
 
 -- what stands before the first comma, and after it
 abbrev pub before : List ℕ → List ℕ
-before [] = []
-before (c ∷ cs) = cond (c == 44) [] (c ∷ before cs)
+before bs = before_first is_comma bs
 
 abbrev pub after : List ℕ → List ℕ
-after [] = []
-after (c ∷ cs) = cond (c == 44) cs (after cs)
+after bs = after_first is_comma bs
 
 -- one reading after the other is tried
 abbrev pub pair_or : Option ℕ → Option ℕ → Tok

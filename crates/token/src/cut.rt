@@ -1,30 +1,47 @@
 // A text is cut at its separators.
-ghost use Rattle.std.specs.Prelude.{◌≡◌, ◌+◌, ◌<◌, ◌≤◌, false, length, drop, slice_index};
+ghost use Rattle.std.specs.Prelude.{◌≡◌, ◌+◌, ◌≤◌, length, drop, not};
+ghost use Rattle.std.specs.Iterator.{YieldsFirstBy, item_count};
+ghost use Rattle.std.specs.List.{position};
 ghost use Rattle.character.specs.Classes.{is_separator};
-ghost use Rattle.token.specs.Cuts.{parts_of, PartsAreTheCut};
-ghost use Rattle.token.specs.Runs.{run_length, NextPart};
+ghost use Rattle.token.specs.Runs.{run_length, piece_part, parts_left};
 
 use character::is_separator;
 
-// A part of a text: its bytes, the place of the first, and the place behind the last.
+// A part of a text: its bytes, and the place of the first.
 #[derive(Clone, Copy)]
 pub(crate) struct Piece<'a> {
     pub bytes: &'a [u8],
     pub place: usize,
-    pub end: usize,
 }
 
-// The place of the first byte at or after `from` that is no separator, or the end.
-fn skip_separators(text: &[u8], from: usize) -> usize
-    ensures same { parts_of from (drop from text.now) ≡ parts_of result (drop result text.now) }
-    ensures on { from ≤ result }
-    ensures stops { result < length text.now → is_separator (slice_index text.now result) ≡ false }
+// The parts of a text that begin at or after a place.
+#[derive(Clone, Copy)]
+pub(crate) struct Parts<'a> {
+    pub text: &'a [u8],
+    pub from: usize,
+}
+
+// The place of the first byte that is no separator.
+fn part_at(text: &[u8]) -> Option<usize>
+    ensures { result ≡ position (λ c. not (is_separator c)) text.now }
 {
-    let mut i = from;
-    while i < text.len() && is_separator(text[i]) {
-        i += 1;
-    }
-    i
+    text.iter().position(|byte| !is_separator(*byte))
+}
+
+// The place of the first separator.
+fn separator_at(text: &[u8]) -> Option<usize>
+    ensures { result ≡ position is_separator text.now }
+{
+    text.iter().position(|byte| is_separator(*byte))
+}
+
+// How many bytes in front are no separators.
+#[tactic(auto, using(crate::proofs::Steps::run_is, crate::proofs::Steps::run_fits))]
+fn run_length(text: &[u8]) -> usize
+    ensures value { result ≡ run_length text.now }
+    ensures within { result ≤ length text.now }
+{
+    separator_at(text).unwrap_or(text.len())
 }
 
 // The place where the run of bytes that are no separators ends.
@@ -33,26 +50,28 @@ pub fn run_end(text: &[u8], from: usize) -> usize
     ensures on { from ≤ result }
     ensures within { from ≤ length text.now → result ≤ length text.now }
 {
-    let mut i = from;
-    while i < text.len() && !is_separator(text[i]) {
-        i += 1;
+    match text.get(from..) {
+        Some(run) => from + run_length(run),
+        None => from,
     }
-    i
 }
 
-// The first part at or after `from`.
-pub(crate) fn next_part<'a>(text: &'a [u8], from: usize) -> Option<Piece<'a>>
-    ensures first { NextPart text.now from result }
-    ensures cut { PartsAreTheCut }
-{
-    let place = skip_separators(text, from);
-    if place >= text.len() {
-        return None;
+impl<'a> Iterator for Parts<'a> {
+    type Item = Piece<'a>;
+
+    ghost can_next = { λ p. p.from ≤ length p.text.now };
+
+    ghost next_gives = { YieldsFirstBy piece_part parts_left };
+
+    ghost remaining = { item_count parts_left };
+
+    fn next(&mut self) -> Option<Piece<'a>> {
+        let text = self.text;
+        let place = self.from + part_at(&text[self.from..])?;
+        self.from = run_end(text, place);
+        Some(Piece {
+            bytes: &text[place..self.from],
+            place,
+        })
     }
-    let end = run_end(text, place);
-    Some(Piece {
-        bytes: &text[place..end],
-        place,
-        end,
-    })
 }

@@ -1,13 +1,15 @@
 // The tokens of a text: what each of its parts stands for.
-ghost use Rattle.std.specs.Prelude.{◌≡◌, ◌+◌, ◌<◌, ◌≤◌, ◌∷◌, ◌++◌, length, take, drop, codes, slice_index};
+ghost use Rattle.std.specs.Prelude.{◌≡◌, [], ◌∷◌, ◌++◌, codes, MatchOption};
+ghost use Rattle.std.specs.List.{position};
 ghost use Rattle.std.specs.Str.{bytes_eq};
+ghost use Rattle.character.specs.Classes.{is_comma};
 ghost use Rattle.numeral.specs.Numerals.{natural};
 ghost use Rattle.token.specs.Cuts.{PartsAreTheCut};
 ghost use Rattle.token.specs.Tokens.{tok_of, pair_or, before, after};
 ghost use Rattle.token.specs.Reads.{Reads, ReadsPart, Tokenized};
 ghost use Rattle.token.specs.declared.token.TokenRefusal.TheVariants.{NoMemory};
 
-use crate::cut::{Piece, next_part};
+use crate::cut::{Parts, Piece};
 use catalogue::Block;
 use character::is_comma;
 use item::mnemonic::Mnemonic;
@@ -50,41 +52,27 @@ impl<T: Drop> From<AllocFailed<T>> for TokenRefusal {
     }
 }
 
-fn is_define(part: &[u8]) -> bool
-    ensures { result ≡ bytes_eq part.now (codes ":=") }
+// The place of the first comma.
+fn comma_at(part: &[u8]) -> Option<usize>
+    ensures { result ≡ position is_comma part.now }
 {
-    part == b":=".as_slice()
+    part.iter().position(|byte| is_comma(*byte))
 }
 
-// The place of the first comma, or the end.
-fn comma_at(part: &[u8]) -> usize
-    ensures within { result ≤ length part.now }
-    ensures front { take result part.now ≡ before part.now }
-    ensures back { drop (result + 1) part.now ≡ after part.now }
-    ensures comma { result < length part.now → slice_index part.now result ≡ 44 }
+// What stands before the first comma, and after it.
+fn split_at_comma<'a>(part: &'a [u8]) -> Option<(&'a [u8], &'a [u8])>
+    ensures { MatchOption result (after part.now ≡ []) (λ p. (p.0.now ≡ before part.now) × (p.1.now ≡ after part.now) × (p.0.now ++ (44 ∷ p.1.now) ≡ part.now)) }
 {
-    let mut i = 0;
-    while i < part.len() && !is_comma(part[i]) {
-        i += 1;
-    }
-    i
+    let comma = comma_at(part)?;
+    Some((&part[..comma], &part[comma + 1..]))
 }
 
 // A pair of numbers with a comma between them.
 fn pair_of<'a>(part: &'a [u8]) -> Option<Token<'a>>
     ensures { Reads part.now (pair_or (natural (before part.now)) (natural (after part.now))) result }
 {
-    let comma = comma_at(part);
-    if comma >= part.len() {
-        return None;
-    }
-    let group = &part[..comma];
-    let channel = &part[comma + 1..];
-    if is_natural(group) && is_natural(channel) {
-        Some(Token::Pair(group, channel))
-    } else {
-        None
-    }
+    let (group, channel) = split_at_comma(part)?;
+    (is_natural(group) && is_natural(channel)).then_some(Token::Pair(group, channel))
 }
 
 // The token that a part of a text is, if it is known.
@@ -100,7 +88,7 @@ pub fn token_of<'a>(edition: Edition, part: &'a [u8]) -> Option<Token<'a>>
     if let Some(block) = block_spelt(edition, part) {
         return Some(Token::Block(part, block));
     }
-    if is_define(part) {
+    if part == b":=".as_slice() {
         return Some(Token::Define(part));
     }
     if is_number(part) {
@@ -112,16 +100,13 @@ pub fn token_of<'a>(edition: Edition, part: &'a [u8]) -> Option<Token<'a>>
 fn read_part<'a>(edition: Edition, part: Piece<'a>) -> Result<Placed<'a>, TokenRefusal>
     ensures { ReadsPart edition part.entry result }
 {
-    match token_of(edition, part.bytes) {
-        Some(token) => Ok(Placed {
-            token,
-            place: part.place,
-        }),
-        None => Err(TokenRefusal::Unknown { place: part.place }),
-    }
+    let place = part.place;
+    let token = token_of(edition, part.bytes).ok_or(TokenRefusal::Unknown { place })?;
+    Ok(Placed { token, place })
 }
 
 // The tokens of a text in order, or the place of the first part that is no token.
+#[tactic(auto, using(crate::proofs::Theorem::parts_are_the_cut))]
 pub fn tokens<'a>(
     heap: Global,
     edition: Edition,
@@ -131,10 +116,9 @@ pub fn tokens<'a>(
     ensures cut { PartsAreTheCut }
 {
     let mut tokens = Vec::new(heap);
-    let mut from = 0;
-    while let Some(part) = next_part(text, from) {
+    let parts = Parts { text, from: 0 };
+    for part in parts {
         tokens.push(read_part(edition, part)?)?;
-        from = part.end;
     }
     Ok(tokens)
 }

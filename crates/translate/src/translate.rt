@@ -15,16 +15,7 @@ fn parse(heap: Global, edition: Edition, text: &[u8]) -> Result<Program, Refusal
     ensures { Parses (translation_of edition text.now) result }
 {
     let tokens = tokens(heap, edition, text)?;
-    let program = read(heap, edition, &tokens, text.len())?;
-    Ok(program)
-}
-
-// The list that a text writes.
-fn written_by(heap: Global, edition: Edition, text: &[u8]) -> Result<Program, Refusal>
-    ensures read { Parses (translation_of edition text.now) result }
-    ensures law { TranslatesWhatIsWritten edition text.now }
-{
-    parse(heap, edition, text)
+    Ok(read(heap, edition, &tokens, text.len())?)
 }
 
 fn write_program(
@@ -35,8 +26,7 @@ fn write_program(
     ensures answer { Answers result (due_for edition (program_of program.now) (length buffer.old)) }
     ensures left { buffer.new ≡ left_by result (image_of edition (program_of program.now)) buffer.old }
 {
-    let written = write(edition, &program.items, &program.constants, buffer)?;
-    Ok(written)
+    Ok(write(edition, &program.items, &program.constants, buffer)?)
 }
 
 // Translates a text: its image stands first in the buffer, and the rest is as before.
@@ -51,6 +41,6 @@ pub fn translate(
     ensures left { buffer.new ≡ left_by result (image_of edition (translation_of edition text.now)) buffer.old }
     ensures law { TranslatesWhatIsWritten edition text.now }
 {
-    let program = written_by(heap, edition, text)?;
+    let program = parse(heap, edition, text)?;
     write_program(edition, &program, buffer)
 }

@@ -17,7 +17,8 @@ use Rattle.follow.specs.declared.state.Role.{Role}
 use Rattle.follow.specs.declared.state.Role.TheVariants as For
 use Rattle.follow.specs.declared.state.State.{State}
 use Rattle.follow.specs.declared.state.Step.{Step}
-use Rattle.follow.specs.Steps.{constant_kind, constant_fits, least, most, word_bits, begun, entry, after_call, call_number, term, target, address, direct, mark, constant, defined, valued, asked}
+use Rattle.constants.specs.Rules.{constant_kind, constant_fits, least, most}
+use Rattle.follow.specs.Steps.{word_bits, begun, entry, after_call, call_number, term, target, address, direct, mark, constant, defined, valued, asked}
 use Rattle.reader.specs.Reading.{Read, Outcome, list, misfit, go_on, stepped, ended, items_after, constants_after, read_on, unread}
 use Rattle.writing.specs.Texts.{at, Alone, Constants, Writes}
 use Rattle.writing.proofs.Ranges.{all_but_last, one_less}

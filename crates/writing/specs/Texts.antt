@@ -14,7 +14,8 @@ use Rattle.item.specs.declared.item.Item.{Item}
 use Rattle.numeral.specs.Numerals.{Written, plain, value_of}
 use Rattle.image.specs.declared.constant.Constant.{Constant}
 use Rattle.token.specs.Tokens.{Tok, word, letters, block, define, number, pair, Seen}
-use Rattle.follow.specs.Steps.{constant_kind, constant_fits, least, most, word_bits}
+use Rattle.constants.specs.Rules.{constant_kind, constant_fits, least, most}
+use Rattle.follow.specs.Steps.{word_bits}
 
 -- a token at some place
 abbrev pub at : ℕ → Tok → Seen

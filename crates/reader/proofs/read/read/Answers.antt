@@ -1,11 +1,13 @@
-use Rattle.reader.proofs.Walking.{stopped, went_on, complete, missing}
+use Rattle.reader.proofs.Walking.{refused, stopped, went_on, complete, missing}
 use Rattle.reader.proofs.read.read.Goals as goal
 
-pub returns-in-Err : goal.returns-in-Err
-returns-in-Err c = stopped c.args.edition c.args.end c.args.tokens.now _ _ _ c.loop-placed.invariant _ _ c.loop-placed-test.true c.in-Err.ensures
+pub returns-in_err-step : goal.returns-in_err-step
+returns-in_err-step c =
+    let stops = stopped c.args.edition c.args.end c.args.tokens.now _ _ _ c.loop-placed.invariant _ _ c.loop-placed-test.true c.in_err-step.ensures in
+    refused _ _ c.from_residual.result stops c.from_residual.ensures.1
 
 pub loop-placed-preserved : goal.loop-placed-preserved
-loop-placed-preserved c = went_on c.args.edition c.args.end c.args.tokens.now _ _ _ c.loop-placed.invariant _ _ _ _ c.loop-placed-test.true c.in-Ok.ensures c.in_ok-put_item.ensures c.in_ok-put_constant.ensures
+loop-placed-preserved c = went_on c.args.edition c.args.end c.args.tokens.now _ _ _ c.loop-placed.invariant _ _ _ _ c.loop-placed-test.true c.in_ok-step.ensures c.in_ok-put.ensures.items c.in_ok-put.ensures.constants
 
 pub returns-then-may_stop : goal.returns-then-may_stop
 returns-then-may_stop c = complete c.args.edition c.args.end c.args.tokens.now _ _ _ c.loop-placed.invariant c.loop-placed-test.false c.if-may_stop.ensures
