@@ -25,13 +25,9 @@ impl Rule for Depth {
 
     fn step(self, item: Item) -> Option<Self> {
         match item {
-            Item::Open(_) => if self.brackets < 15 {
-                Some(Depth {
-                    brackets: self.brackets + 1,
-                })
-            } else {
-                None
-            },
+            Item::Open(_) => (self.brackets < 15).then(|| Depth {
+                brackets: self.brackets + 1,
+            }),
             Item::Close => Some(Depth {
                 brackets: self.brackets.saturating_sub(1),
             }),

@@ -42,11 +42,7 @@ impl Rule for Targets {
 
     fn step(self, item: Item) -> Option<Self> {
         match item {
-            Item::Assign(form, operand) => if may_assign(form, operand) {
-                Some(self)
-            } else {
-                None
-            },
+            Item::Assign(form, operand) => may_assign(form, operand).then_some(self),
             _ => Some(self),
         }
     }

@@ -25,56 +25,58 @@ pub enum Types {
     Compared,
 }
 
-fn turned(state: Types, turn: Turn) -> Option<Types>
-    ensures { result ≡ turned_types state turn }
-{
-    match (state, turn) {
-        (_, Turn::Plain) => Some(state),
-        (Types::Pending(_, words), Turn::Not) => Some(Types::Pending(true, words)),
-        (Types::Pending(bits, _), Turn::Minus) => Some(Types::Pending(bits, true)),
-        (Types::Bits, Turn::Not) => Some(state),
-        (Types::Words, Turn::Minus) => Some(state),
-        (Types::Compared, Turn::Minus) => Some(state),
-        (_, _) => None,
+impl Types {
+    fn turned(self, turn: Turn) -> Option<Self>
+        ensures { result ≡ turned_types self turn }
+    {
+        match (self, turn) {
+            (_, Turn::Plain) => Some(self),
+            (Types::Pending(_, words), Turn::Not) => Some(Types::Pending(true, words)),
+            (Types::Pending(bits, _), Turn::Minus) => Some(Types::Pending(bits, true)),
+            (Types::Bits, Turn::Not) | (Types::Words | Types::Compared, Turn::Minus) => Some(self),
+            (_, _) => None,
+        }
     }
-}
 
-fn taken(state: Types, operand: Operand) -> Option<Types>
-    ensures { result ≡ operand_types state (size_of operand.kind) }
-{
-    match (state, operand.kind.size()) {
-        (Types::Pending(_, words), Size::Bit) => if words { None } else { Some(Types::Bits) },
-        (Types::Pending(bits, _), Size::Word) => if bits { None } else { Some(Types::Words) },
-        (Types::Bits, Size::Bit) => Some(state),
-        (Types::Words, Size::Word) => Some(state),
-        (Types::Compared, Size::Word) => Some(state),
-        (_, _) => None,
+    fn taken(self, operand: Operand) -> Option<Self>
+        ensures { result ≡ operand_types self (size_of operand.kind) }
+    {
+        match (self, operand.kind.size()) {
+            (Types::Pending(_, false) | Types::Bits, Size::Bit) => Some(Types::Bits),
+            (Types::Pending(false, _) | Types::Words, Size::Word) => Some(Types::Words),
+            (Types::Compared, Size::Word) => Some(Types::Compared),
+            (_, _) => None,
+        }
     }
-}
 
-fn joined(state: Types, operator: Operator) -> Option<Types>
-    ensures { result ≡ operator_types state operator }
-{
-    match operator {
-        Operator::And | Operator::AndNot | Operator::Or | Operator::OrNot => match state {
-            Types::Bits => Some(state),
-            _ => None,
-        },
-        _ => match state {
-            Types::Words | Types::Compared => Some(state),
-            _ => None,
-        },
+    fn joined(self, operator: Operator) -> Option<Self>
+        ensures { result ≡ operator_types self operator }
+    {
+        match (self, operator) {
+            (Types::Bits, Operator::And | Operator::AndNot | Operator::Or | Operator::OrNot) =>
+                Some(self),
+            (
+                Types::Words | Types::Compared,
+                Operator::Add
+                | Operator::Subtract
+                | Operator::Multiply
+                | Operator::MultiplyMinus
+                | Operator::Divide
+                | Operator::DivideMinus,
+            ) => Some(self),
+            (_, _) => None,
+        }
     }
-}
 
-fn assigned(state: Types, form: Form, operand: Operand) -> Option<Types>
-    ensures { result ≡ assign_types state form (size_of operand.kind) }
-{
-    match (state, form, operand.kind.size()) {
-        (Types::Bits | Types::Compared, Form::Minus, _) => None,
-        (Types::Bits | Types::Compared, _, Size::Bit) => Some(state),
-        (Types::Words, Form::Plain | Form::Minus, Size::Word) => Some(state),
-        (_, _, _) => None,
+    fn assigned(self, form: Form, operand: Operand) -> Option<Self>
+        ensures { result ≡ assign_types self form (size_of operand.kind) }
+    {
+        match (self, form, operand.kind.size()) {
+            (Types::Bits | Types::Compared, Form::Minus, _) => None,
+            (Types::Bits | Types::Compared, _, Size::Bit) => Some(self),
+            (Types::Words, Form::Plain | Form::Minus, Size::Word) => Some(self),
+            (_, _, _) => None,
+        }
     }
 }
 
@@ -92,19 +94,13 @@ impl Rule for Types {
     fn step(self, item: Item) -> Option<Self> {
         match item {
             Item::Nop | Item::Close => Some(self),
-            Item::Start(turn) => turned(Types::Pending(false, false), turn),
-            Item::Open(turn) => turned(self, turn),
-            Item::Operand(operand) => taken(self, operand),
-            Item::Operator(operator) => joined(self, operator),
-            Item::Compare(_) => match self {
-                Types::Words => Some(Types::Compared),
-                _ => None,
-            },
-            Item::Assign(form, operand) => assigned(self, form, operand),
-            Item::EndIf => match self {
-                Types::Bits | Types::Compared => Some(Types::Idle),
-                _ => None,
-            },
+            Item::Start(turn) => Types::Pending(false, false).turned(turn),
+            Item::Open(turn) => self.turned(turn),
+            Item::Operand(operand) => self.taken(operand),
+            Item::Operator(operator) => self.joined(operator),
+            Item::Compare(_) => matches!(self, Types::Words).then_some(Types::Compared),
+            Item::Assign(form, operand) => self.assigned(form, operand),
+            Item::EndIf => matches!(self, Types::Bits | Types::Compared).then_some(Types::Idle),
             _ => Some(Types::Idle),
         }
     }

@@ -1,49 +1,45 @@
 -- The words of a list that grows, and how many they are.
-use Rattle.std.proofs.Common.{◌≡◌, ℕ, ◌+◌, ◌*◌, ◌<◌, List, [], ◌∷◌, ◌++◌, length, get_or, take, sym, refl, ap, ◌∙◌, arith, length-append}
-use Rattle.std.proofs.lemmas.List.{take_more}
+use Rattle.std.proofs.Common.{◌≡◌, ℕ, ◌+◌, ◌*◌, ◌<◌, List, [], ◌∷◌, ◌++◌, length, get_or, take, drop, ◌≤◌, append-nil, sym, refl, ap, ◌∙◌, arith, length-append}
+use Rattle.std.proofs.lemmas.List.{take_more, take-append-drop}
+use Rattle.std.proofs.lemmas.List.Sums.{sum_by-cons}
+use Rattle.std.specs.List.{flat_map, sum_by}
+use Rattle.std.proofs.lemmas.Grind.{flat_map-append}
 use Rattle.operand.specs.declared.edition.Edition.{Edition}
 use Rattle.item.specs.Items.{item_cells}
 use Rattle.item.specs.declared.item.Item.{Item}
 use Rattle.image.specs.Images.{item_pair, item_words, constant_triple, constant_words, cells_sum, image_length, words_of}
 use Rattle.image.specs.declared.constant.Constant.{Constant}
 
-item_words_push : (xs : List Item) (x : Item) → item_words xs ++ item_pair x ≡ item_words (xs ++ (x ∷ []))
-unfolding item_words
-item_words_push [] x = refl
-item_words_push (y ∷ xs) x = ap (λ z. item_pair y ++ z) (item_words_push xs x)
-
-constant_words_push : (xs : List Constant) (x : Constant) → constant_words xs ++ constant_triple x ≡ constant_words (xs ++ (x ∷ []))
-unfolding constant_words
-constant_words_push [] x = refl
-constant_words_push (y ∷ xs) x = ap (λ z. constant_triple y ++ z) (constant_words_push xs x)
-
-cells_sum_push : (xs : List Item) (x : Item) → cells_sum xs + item_cells x ≡ cells_sum (xs ++ (x ∷ []))
+-- the cells, as the library's sum
+pub cells_by : (xs : List Item) → sum_by item_cells xs ≡ cells_sum xs
 unfolding cells_sum
-cells_sum_push [] x = omega arith
-cells_sum_push (y ∷ xs) x = omega (arith, cells_sum_push xs x)
+cells_by [] = refl
+cells_by (x ∷ xs) = sum_by-cons item_cells x xs ∙ ap (λ n. item_cells x + n) (cells_by xs)
 
-pub item_words_none : item_words [] ≡ []
+-- the words of things of one kind
+
+pub items_flat : (xs : List Item) → flat_map item_pair xs ≡ item_words xs
 unfolding item_words
-item_words_none = refl
+items_flat [] = refl
+items_flat (x ∷ xs) = ap (λ z. item_pair x ++ z) (items_flat xs)
 
-pub constant_words_none : constant_words [] ≡ []
+pub constants_flat : (xs : List Constant) → flat_map constant_triple xs ≡ constant_words xs
 unfolding constant_words
-constant_words_none = refl
+constants_flat [] = refl
+constants_flat (x ∷ xs) = ap (λ z. constant_triple x ++ z) (constants_flat xs)
 
-pub cells_sum_none : cells_sum [] ≡ 0
-unfolding cells_sum
-cells_sum_none = refl
+-- one more of them
+pub flat_more : {A : Type 0} (f : A → List ℕ) (xs : List A) (i : ℕ) (d : A) → i < length xs → flat_map f (take i xs) ++ f (get_or xs i d) ≡ flat_map f (take (i + 1) xs)
+flat_more f xs i d l =
+    let one : flat_map f (get_or xs i d ∷ []) ≡ f (get_or xs i d) = append-nil (f (get_or xs i d)) in
+    sym (ap (flat_map f) (take_more xs i d l) ∙ flat_map-append f (take i xs) (get_or xs i d ∷ []) ∙ ap (λ z. flat_map f (take i xs) ++ z) one)
 
-pub item_words_more : (xs : List Item) (i : ℕ) (d : Item) → i < length xs → item_words (take i xs) ++ item_pair (get_or xs i d) ≡ item_words (take (i + 1) xs)
-item_words_more xs i d l = item_words_push (take i xs) (get_or xs i d) ∙ ap item_words (sym (take_more xs i d l))
-
-pub constant_words_more : (xs : List Constant) (i : ℕ) (d : Constant) → i < length xs → constant_words (take i xs) ++ constant_triple (get_or xs i d) ≡ constant_words (take (i + 1) xs)
-constant_words_more xs i d l = constant_words_push (take i xs) (get_or xs i d) ∙ ap constant_words (sym (take_more xs i d l))
-
-pub cells_sum_more : (xs : List Item) (i : ℕ) (d : Item) (sum cells : ℕ) → i < length xs
-    → sum ≡ cells_sum (take i xs) → cells ≡ item_cells (get_or xs i d) → sum + cells ≡ cells_sum (take (i + 1) xs)
-cells_sum_more xs i d sum cells l was here =
-    ap (λ n. n + cells) was ∙ ap (λ n. cells_sum (take i xs) + n) here ∙ cells_sum_push (take i xs) (get_or xs i d) ∙ ap cells_sum (sym (take_more xs i d l))
+-- so many of them have no more words than all
+pub flat_within : {A : Type 0} (f : A → List ℕ) (xs : List A) (i : ℕ) → length (flat_map f (take i xs)) ≤ length (flat_map f xs)
+flat_within f xs i =
+    let all : length (flat_map f xs) ≡ length (flat_map f (take i xs)) + length (flat_map f (drop i xs)) =
+    ap (λ z. length (flat_map f z)) (sym (take-append-drop i xs)) ∙ ap length (flat_map-append f (take i xs) (drop i xs)) ∙ length-append _ _ in
+    omega arith
 
 pub item_words_length : (xs : List Item) → length (item_words xs) ≡ 2 * length xs
 unfolding item_words
@@ -59,3 +55,9 @@ pub words_length : (e : Edition) (is : List Item) (cs : List Constant) → image
 unfolding words_of
 words_length e is cs =
     simp length-append (omega (arith, item_words_length is, constant_words_length cs))
+
+pub flat_items : (xs : List Item) → length (flat_map item_pair xs) ≡ 2 * length xs
+flat_items xs = ap length (items_flat xs) ∙ item_words_length xs
+
+pub flat_constants : (xs : List Constant) → length (flat_map constant_triple xs) ≡ 3 * length xs
+flat_constants xs = ap length (constants_flat xs) ∙ constant_words_length xs

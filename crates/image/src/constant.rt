@@ -15,11 +15,7 @@ pub struct Constant {
 fn bits_of(value: i32) -> u32
     ensures { result ≡ bits_32 value }
 {
-    if value < 0 {
-        (value as i64 + 0x1_0000_0000) as u32
-    } else {
-        value as u32
-    }
+    value.cast_unsigned()
 }
 
 impl Constant {

@@ -1,6 +1,7 @@
 // Writing an image: items, constants and trailer, into a lent buffer.
-ghost use Rattle.std.specs.Prelude.{◌≡◌, ◌+◌, ◌*◌, ◌≤◌, length};
-ghost use Rattle.image.specs.Images.{item_pair, item_words, constant_triple, constant_words, cells_sum, image_length, most_items, most_constants, trailer_words, words_of};
+ghost use Rattle.std.specs.Prelude.{◌≡◌, ℕ, ◌+◌, ◌≤◌, List, length};
+ghost use Rattle.std.specs.List.{flat_map};
+ghost use Rattle.image.specs.Images.{item_pair, constant_triple, cells_sum, image_length, most_items, most_constants, words_of};
 ghost use Rattle.image.specs.Writes.{laid, first_laid, write_answer, write_left};
 ghost use Rattle.operand.specs.declared.edition.Edition.{Edition as AnyEdition};
 
@@ -30,74 +31,53 @@ pub enum WriteRefusal {
     TooLong,
 }
 
-// Puts words into the buffer from a place on.
-fn put(buffer: &mut [u16], at: usize, words: &[u16])
+// Puts words into the buffer from a place on; returns the place after them.
+fn put(buffer: &mut [u16], at: usize, words: &[u16]) -> usize
     requires { at + length words.now ≤ length buffer.old }
-    ensures { buffer.new ≡ laid buffer.old at words.now }
+    ensures next { result ≡ at + length words.now }
+    ensures left { buffer.new ≡ laid buffer.old at words.now }
 {
-    buffer[at..at + words.len()].copy_from_slice(words);
+    let end = at + words.len();
+    buffer[at..end].copy_from_slice(words);
+    end
 }
 
-fn put_item(buffer: &mut [u16], at: usize, item: Item)
-    requires { at + 2 ≤ length buffer.old }
-    ensures { buffer.new ≡ laid buffer.old at (item_pair item) }
-{
-    put(buffer, at, &[item.number(), item.argument()]);
+// What an image has words for.
+trait Encoded: Copy {
+    ghost words: { Self → List ℕ };
+
+    // Puts its words into the buffer from a place on; returns the place after them.
+    fn put(self, buffer: &mut [u16], at: usize) -> usize
+        requires { at + length (words self) ≤ length buffer.old }
+        ensures next { result ≡ at + length (words self) }
+        ensures left { buffer.new ≡ laid buffer.old at (words self) };
 }
 
-fn put_constant(buffer: &mut [u16], at: usize, constant: Constant)
-    requires { at + 3 ≤ length buffer.old }
-    ensures { buffer.new ≡ laid buffer.old at (constant_triple constant) }
-{
-    put(
-        buffer,
-        at,
-        &[constant.operand.code(), constant.low(), constant.high()],
-    );
-}
+impl Encoded for Item {
+    ghost words = { item_pair };
 
-fn put_trailer(buffer: &mut [u16], at: usize, edition: Edition, counts: Written)
-    requires { (at + 6 ≤ length buffer.old) × (counts.length ≤ 65535) }
-    ensures { buffer.new ≡ laid buffer.old at (trailer_words edition counts.length counts.items counts.constants counts.cells) }
-{
-    put(
-        buffer,
-        at,
-        &[
-            counts.length as u16,
-            counts.items,
-            counts.constants,
-            counts.cells,
-            edition.number(),
-            IDENTIFIER,
-        ],
-    );
-}
-
-// Puts the words of the items from a place on; returns the place after them.
-fn put_items(buffer: &mut [u16], from: usize, items: &[Item]) -> usize
-    requires { from + 2 * length items.now ≤ length buffer.old }
-    ensures next { result ≡ from + 2 * length items.now }
-    ensures left { buffer.new ≡ laid buffer.old from (item_words items.now) }
-{
-    let mut at = from;
-    for item in items {
-        put_item(buffer, at, *item);
-        at += 2;
+    fn put(self, buffer: &mut [u16], at: usize) -> usize {
+        put(buffer, at, &[self.number(), self.argument()])
     }
-    at
 }
 
-// Puts the words of the constants from a place on; returns the place after them.
-fn put_constants(buffer: &mut [u16], from: usize, constants: &[Constant]) -> usize
-    requires { from + 3 * length constants.now ≤ length buffer.old }
-    ensures next { result ≡ from + 3 * length constants.now }
-    ensures left { buffer.new ≡ laid buffer.old from (constant_words constants.now) }
+impl Encoded for Constant {
+    ghost words = { constant_triple };
+
+    fn put(self, buffer: &mut [u16], at: usize) -> usize {
+        put(buffer, at, &[self.operand.code(), self.low(), self.high()])
+    }
+}
+
+// Puts the words of things of one kind, one thing after another.
+fn put_all<E: Encoded>(buffer: &mut [u16], from: usize, things: &[E]) -> usize
+    requires { from + length (flat_map E.Encoded.words things.now) ≤ length buffer.old }
+    ensures next { result ≡ from + length (flat_map E.Encoded.words things.now) }
+    ensures left { buffer.new ≡ laid buffer.old from (flat_map E.Encoded.words things.now) }
 {
     let mut at = from;
-    for constant in constants {
-        put_constant(buffer, at, *constant);
-        at += 3;
+    for thing in things {
+        at = thing.put(buffer, at);
     }
     at
 }
@@ -106,11 +86,7 @@ fn count_cells(items: &[Item]) -> u16
     requires { length items.now ≤ most_items }
     ensures { result ≡ cells_sum items.now }
 {
-    let mut cells = 0;
-    for item in items {
-        cells += item.cells();
-    }
-    cells
+    items.iter().map(|item| item.cells()).sum()
 }
 
 // How many words the image has, whatever the edition.
@@ -137,9 +113,20 @@ fn put_image(
     requires cells { counts.cells ≡ cells_sum items.now }
     ensures { buffer.new ≡ first_laid buffer.old (words_of edition items.now constants.now) }
 {
-    let next = put_items(buffer, 0, items);
-    let next = put_constants(buffer, next, constants);
-    put_trailer(buffer, next, edition, counts);
+    let next = put_all(buffer, 0, items);
+    let next = put_all(buffer, next, constants);
+    put(
+        buffer,
+        next,
+        &[
+            counts.length as u16,
+            counts.items,
+            counts.constants,
+            counts.cells,
+            edition.number(),
+            IDENTIFIER,
+        ],
+    );
 }
 
 // Writes the image of a list first into the buffer and leaves the rest of it; a refusal leaves it all.
