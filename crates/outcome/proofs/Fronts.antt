@@ -1,5 +1,5 @@
--- The image that stands first in the buffer.
-use Rattle.std.proofs.Common.{◌≡◌, ℕ, ◌-◌, Bool, true, false, cond, ◌&&◌, leb, List, [], ◌∷◌, ◌++◌, length, take, Ok, Err, sym, refl, ap, ◌∙◌, arith}
+-- The length of what was written.
+use Rattle.std.proofs.Common.{◌≡◌, ℕ, Bool, true, false, cond, ◌&&◌, leb, length, Ok, Err, sym, ap, arith}
 use Rattle.operand.specs.declared.edition.Edition.{Edition}
 use Rattle.image.specs.declared.write.Written.{Written}
 use Rattle.image.specs.declared.write.WriteRefusal.TheVariants.{TooMany, TooLong}
@@ -15,13 +15,3 @@ written_length e (translated is cs) room w h = by (leb (length is) most_items &&
     by true false d = let z : ◌≡◌ {A = ℕ} 0 1 = cc in absurd (omega arith)
     by false b d = let z : ◌≡◌ {A = ℕ} 0 1 = cc in absurd (omega arith)
 written_length e (refused t) room w h = let z : ◌≡◌ {A = ℕ} 0 1 = cc in absurd (omega arith)
-
-front : (ws rest : List ℕ) → take (length ws) (ws ++ rest) ≡ ws
-front [] rest = refl
-front (w ∷ ws) rest = ap (λ (us : List ℕ). w ∷ us) (front ws rest)
-
--- the part of a buffer from its start on
-pub first_words : (ws rest buffer : List ℕ) (n : ℕ) → buffer ≡ ws ++ rest → n ≡ length ws → take (n - 0) buffer ≡ ws
-first_words ws rest buffer n b l =
-    let all : n - 0 ≡ length ws = omega arith in
-    ap (λ (us : List ℕ). take (n - 0) us) b ∙ (ap (λ (k : ℕ). take k (ws ++ rest)) all ∙ front ws rest)
