@@ -41,7 +41,7 @@ impl Plant for Bench {
     ghost rest = { λ _. tt };
 
     fn fitted(&self, point: u16) -> Result<(), PlantFault> {
-        if point < 192 && (point as usize) < self.terminals.len() {
+        if point < 192 && usize::from(point) < self.terminals.len() {
             Ok(())
         } else {
             Err(PlantFault {
@@ -53,12 +53,12 @@ impl Plant for Bench {
 
     fn take(&mut self, point: u16) -> Result<u16, PlantFault> {
         self.fitted(point)?;
-        Ok(self.terminals[point as usize].input)
+        Ok(self.terminals[usize::from(point)].input)
     }
 
     fn put(&mut self, point: u16, word: u16) -> Result<(), PlantFault> {
         self.fitted(point)?;
-        self.terminals[point as usize].output = word;
+        self.terminals[usize::from(point)].output = word;
         let puts = self.puts;
         if puts < 8 {
             self.log[puts] = point;
