@@ -2,6 +2,7 @@
 ghost use Rattle.std.specs.Prelude.{ℕ, List, []};
 ghost use Rattle.plant_trials.specs.Benches.{bench_inside, logged, on_bench};
 
+use arrayvec::ArrayVec;
 use plant::fault::PlantFault;
 use plant::plant::Plant;
 
@@ -14,9 +15,7 @@ pub struct Terminal {
 #[derive(Drop)]
 pub struct Bench {
     pub terminals: Vec<Terminal>,
-    // the points put, and how many of them
-    pub log: [u16; 8],
-    pub puts: usize,
+    pub log: ArrayVec<u16, 8>,
 }
 
 pub const LAYER: u16 = 7;
@@ -28,9 +27,9 @@ impl Plant for Bench {
 
     ghost layer = { 7 };
 
-    ghost Kept = { ℕ × List ℕ };
+    ghost Kept = { List ℕ };
 
-    ghost kept = { λ s. (s.puts, s.log) };
+    ghost kept = { λ s. s.log.items };
 
     ghost noted = { logged };
 
@@ -59,11 +58,8 @@ impl Plant for Bench {
     fn put(&mut self, point: u16, word: u16) -> Result<(), PlantFault> {
         self.fitted(point)?;
         self.terminals[usize::from(point)].output = word;
-        let puts = self.puts;
-        if puts < 8 {
-            self.log[puts] = point;
-            self.puts = puts + 1;
-        }
+        // a full log keeps what it has
+        let _ = self.log.try_push(point);
         Ok(())
     }
 }

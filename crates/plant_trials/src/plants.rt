@@ -1,5 +1,6 @@
 // Each plant at the first and last points, at points that it has not, and what a put leaves.
 use crate::bench::{Bench, Terminal};
+use arrayvec::ArrayVec;
 use bus::{Bus, Module};
 use plant::fault::PlantFault;
 use plant::plant::Plant;
@@ -148,14 +149,16 @@ fn benches(rt: HostRuntime) -> Result<(), Fail> {
             input: 5,
             output: 0
         }; 200]?,
-        log: [0; 8],
-        puts: 0,
+        log: ArrayVec::new(),
     };
     for point in &POINTS {
         let input = (*point < 192).then_some(5);
         check_calls(&rt, &mut bench, *point, input, 7);
     }
-    assert_eq!(rt; bench.log, [0, 0, 1, 1, 63, 63, 64, 64]);
+    assert_eq!(rt;
+        bench.log.as_slice(),
+        [0, 0, 1, 1, 63, 63, 64, 64].as_slice()
+    );
     assert!(rt; bench.terminals.len() == 200);
     assert_eq!(rt; bench.terminals[64].output, WORD);
     assert_eq!(rt; bench.terminals[65].output, 0);
