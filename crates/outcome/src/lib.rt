@@ -39,6 +39,7 @@ pub fn report_image(heap: Global, words: &[u16]) -> Result<Report, AllocError>
 }
 
 // What comes of a list's text.
+#[tactic(auto, using(crate::proofs::Fronts::verdict_written))]
 pub fn report_text(heap: Global, text: &[u8]) -> Result<Report, AllocError>
     ensures { IfOk result (λ p. Reports text.now p) }
 {
