@@ -2,26 +2,14 @@
 // Ends with status 1 where the list is refused, or where reading, memory or printing fails.
 #![tactic(auto)]
 
-use report::{Report, report_text};
+use report::report_text;
 use std::io::Read;
 use std::process::ExitCode;
 
-fn report_input(rt: &HostRuntime) -> anyhow::Result<Report> {
+fn main(rt: HostRuntime) -> anyhow::Result<ExitCode> {
     let mut text = Vec::new(rt.alloc());
     rt.stdin().read_to_end(&mut text)?;
-    Ok(report_text(rt.alloc(), &text)?)
-}
-
-fn print_report(rt: &HostRuntime) -> anyhow::Result<bool> {
-    let report = report_input(rt)?;
+    let report = report_text(rt.alloc(), &text)?;
     rt.println(report.line.as_str())?;
-    Ok(report.accepted)
-}
-
-fn main(rt: HostRuntime) -> anyhow::Result<ExitCode> {
-    if print_report(&rt)? {
-        Ok(ExitCode::SUCCESS)
-    } else {
-        Ok(ExitCode::FAILURE)
-    }
+    Ok(report.exit_code())
 }

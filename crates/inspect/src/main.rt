@@ -5,7 +5,8 @@
 
 use explain::shown::explain;
 use operand::edition::Edition;
-use outcome::{MOST_WORDS, Report, report_text};
+use outcome::report_text;
+use report::MOST_WORDS;
 use std::env;
 use std::io::{Read, Write};
 use std::process::ExitCode;
@@ -16,50 +17,36 @@ use translate::translate::translate;
 const EXPLAINED: usize = 256;
 
 fn asked_to_explain(rt: &HostRuntime) -> anyhow::Result<bool> {
-    for argument in env::args(rt)?.skip(1) {
-        if argument.as_str() == "--explain" {
-            return Ok(true);
-        }
-    }
-    Ok(false)
+    Ok(
+        env::args(rt)?
+            .skip(1)
+            .any(|argument| argument.as_str() == "--explain"),
+    )
 }
 
 fn print_explained(rt: &HostRuntime, text: &[u8], told: Told) -> anyhow::Result<()> {
     let mut words = [0; MOST_WORDS];
     let items = match translate(rt.alloc(), Edition::Series90, text, &mut words) {
-        Ok(written) => 2 * written.items as usize,
+        Ok(written) => 2 * usize::from(written.items),
         Err(_) => 0,
     };
     let items = items.min(MOST_WORDS);
     let mut lines = [0; EXPLAINED];
-    let length = explain(told, text, &words[0..items], &mut lines);
+    let length = explain(told, text, &words[..items], &mut lines);
     let length = length.min(EXPLAINED);
-    rt.stdout().write_all(&lines[0..length])?;
+    rt.stdout().write_all(&lines[..length])?;
     Ok(())
 }
 
-fn print_report(rt: &HostRuntime, text: &[u8]) -> anyhow::Result<Report> {
-    let report = report_text(rt.alloc(), text)?;
-    rt.println(report.line.as_str())?;
-    Ok(report)
-}
-
-fn run(rt: &HostRuntime) -> anyhow::Result<bool> {
+fn main(rt: HostRuntime) -> anyhow::Result<ExitCode> {
     let mut text = Vec::new(rt.alloc());
     rt.stdin().read_to_end(&mut text)?;
-    let report = print_report(rt, &text)?;
+    let report = report_text(rt.alloc(), &text)?;
+    rt.println(report.line.as_str())?;
     if let Some(told) = report.told {
-        if asked_to_explain(rt)? {
-            print_explained(rt, &text, told)?;
+        if asked_to_explain(&rt)? {
+            print_explained(&rt, &text, told)?;
         }
     }
-    Ok(report.accepted)
-}
-
-fn main(rt: HostRuntime) -> anyhow::Result<ExitCode> {
-    if run(&rt)? {
-        Ok(ExitCode::SUCCESS)
-    } else {
-        Ok(ExitCode::FAILURE)
-    }
+    Ok(report.exit_code())
 }

@@ -1,11 +1,16 @@
--- The image that stands first in the buffer.
-use Rattle.std.proofs.Common.{◌≡◌, ℕ, ◌-◌, Bool, true, false, cond, ◌&&◌, leb, List, [], ◌∷◌, ◌++◌, length, take, Ok, Err, sym, refl, ap, ◌∙◌, arith}
+-- The length of what was written.
+use Rattle.std.proofs.Common.{◌≡◌, ℕ, ◌++◌, Bool, true, false, cond, ◌&&◌, leb, List, length, Ok, Err, sym, ap, arith}
 use Rattle.operand.specs.declared.edition.Edition.{Edition}
 use Rattle.image.specs.declared.write.Written.{Written}
 use Rattle.image.specs.declared.write.WriteRefusal.TheVariants.{TooMany, TooLong}
 use Rattle.image.specs.Images.{words_of, most_items, most_constants}
 use Rattle.image.specs.Writes.{counts_of}
-use Rattle.translate.specs.Translation.{Translation, translated, refused, written, write_due, due_for, image_of}
+use Rattle.std.proofs.Common.{take, ◌∙◌}
+use Rattle.std.proofs.lemmas.List.{take_at}
+use Rattle.operand.specs.declared.edition.Edition.TheVariants.{Series90}
+use Rattle.checker.specs.Verdict.{verdict_of}
+use Rattle.outcome.specs.Lines.{verdict_on}
+use Rattle.translate.specs.Translation.{Due, Translation, translated, refused, written, write_due, due_for, image_of}
 
 pub written_length : (e : Edition) (t : Translation) (room : ℕ) (w : Written) → due_for e t room ≡ written w → w.length ≡ length (image_of e t)
 written_length e (translated is cs) room w h = by (leb (length is) most_items && leb (length cs) most_constants) (leb (length (words_of e is cs)) room) h
@@ -16,12 +21,9 @@ written_length e (translated is cs) room w h = by (leb (length is) most_items &&
     by false b d = let z : ◌≡◌ {A = ℕ} 0 1 = cc in absurd (omega arith)
 written_length e (refused t) room w h = let z : ◌≡◌ {A = ℕ} 0 1 = cc in absurd (omega arith)
 
-front : (ws rest : List ℕ) → take (length ws) (ws ++ rest) ≡ ws
-front [] rest = refl
-front (w ∷ ws) rest = ap (λ (us : List ℕ). w ∷ us) (front ws rest)
-
--- the part of a buffer from its start on
-pub first_words : (ws rest buffer : List ℕ) (n : ℕ) → buffer ≡ ws ++ rest → n ≡ length ws → take (n - 0) buffer ≡ ws
-first_words ws rest buffer n b l =
-    let all : n - 0 ≡ length ws = omega arith in
-    ap (λ (us : List ℕ). take (n - 0) us) b ∙ (ap (λ (k : ℕ). take k (ws ++ rest)) all ∙ front ws rest)
+-- the verdict on the words that were written is that on the text
+pub verdict_written : (t : Translation) (room n : ℕ) (w : Written) (rest : List ℕ) (buffer : List ℕ) → due_for Series90 t room ≡ written w → buffer ≡ image_of Series90 t ++ rest → n ≡ w.length
+    → verdict_of (take n buffer) ≡ verdict_on (due_for Series90 t room) (image_of Series90 t)
+verdict_written t room n w rest buffer due left len =
+    let image : take n buffer ≡ image_of Series90 t = ap (take n) left ∙ take_at (image_of Series90 t) rest n (sym (len ∙ written_length Series90 t room w due)) in
+    ap verdict_of image ∙ sym (ap (λ (d : Due). verdict_on d (image_of Series90 t)) due)

@@ -4,7 +4,8 @@ use Rattle.operand.specs.declared.edition.Edition.TheVariants.{Series90}
 use Rattle.told.specs.Lines.{refused_line}
 use Rattle.translate.specs.Translation.{Due, written, no, due_for, image_of, translation_of}
 use Rattle.checker.specs.Verdict.{Verdict, passed, refused, verdict_of}
-use Rattle.outcome.specs.declared.Report.{Report}
+use Rattle.report.specs.Lines.{is_accepted}
+use Rattle.report.specs.declared.Report.{Report}
 
 -- N and H of a list that passes
 abbrev pub passed_line : ℕ → ℕ → List ℕ
@@ -12,8 +13,8 @@ passed_line items cells = codes "passed " ++ (decimal items ++ (codes " items " 
 
 -- the line, whether the list passes, and what is told of a refusal
 abbrev pub ReportsVerdict : Verdict → Report → Type 0
-ReportsVerdict (passed n h) p = (string_bytes p.line ≡ passed_line n h) × (p.accepted ≡ true) × (p.told ≡ None)
-ReportsVerdict (refused t) p = (string_bytes p.line ≡ refused_line t) × (p.accepted ≡ false) × (p.told ≡ Some t)
+ReportsVerdict (passed n h) p = (string_bytes p.line ≡ passed_line n h) × (is_accepted p ≡ true) × (p.told ≡ None)
+ReportsVerdict (refused t) p = (string_bytes p.line ≡ refused_line t) × (is_accepted p ≡ false) × (p.told ≡ Some t)
 
 -- a text that is not translated is refused; the image of any other gets the check's verdict
 abbrev pub verdict_on : Due → List ℕ → Verdict

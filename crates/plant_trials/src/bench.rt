@@ -2,6 +2,7 @@
 ghost use Rattle.std.specs.Prelude.{ℕ, List, []};
 ghost use Rattle.plant_trials.specs.Benches.{bench_inside, logged, on_bench};
 
+use arrayvec::ArrayVec;
 use plant::fault::PlantFault;
 use plant::plant::Plant;
 
@@ -14,9 +15,7 @@ pub struct Terminal {
 #[derive(Drop)]
 pub struct Bench {
     pub terminals: Vec<Terminal>,
-    // the points put, and how many of them
-    pub log: [u16; 8],
-    pub puts: usize,
+    pub log: ArrayVec<u16, 8>,
 }
 
 pub const LAYER: u16 = 7;
@@ -28,9 +27,9 @@ impl Plant for Bench {
 
     ghost layer = { 7 };
 
-    ghost Kept = { ℕ × List ℕ };
+    ghost Kept = { List ℕ };
 
-    ghost kept = { λ s. (s.puts, s.log) };
+    ghost kept = { λ s. s.log.items };
 
     ghost noted = { logged };
 
@@ -41,7 +40,7 @@ impl Plant for Bench {
     ghost rest = { λ _. tt };
 
     fn fitted(&self, point: u16) -> Result<(), PlantFault> {
-        if point < 192 && (point as usize) < self.terminals.len() {
+        if point < 192 && usize::from(point) < self.terminals.len() {
             Ok(())
         } else {
             Err(PlantFault {
@@ -53,17 +52,14 @@ impl Plant for Bench {
 
     fn take(&mut self, point: u16) -> Result<u16, PlantFault> {
         self.fitted(point)?;
-        Ok(self.terminals[point as usize].input)
+        Ok(self.terminals[usize::from(point)].input)
     }
 
     fn put(&mut self, point: u16, word: u16) -> Result<(), PlantFault> {
         self.fitted(point)?;
-        self.terminals[point as usize].output = word;
-        let puts = self.puts;
-        if puts < 8 {
-            self.log[puts] = point;
-            self.puts = puts + 1;
-        }
+        self.terminals[usize::from(point)].output = word;
+        // a full log keeps what it has
+        let _ = self.log.try_push(point);
         Ok(())
     }
 }

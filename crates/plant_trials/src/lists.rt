@@ -35,12 +35,12 @@ static INPUTS: [usize; 3] = [0, 64, 65];
 static OUTPUTS: [usize; 3] = [2, 63, 191];
 
 // Words of a strip, with the place and the point of the first item that it does not fit.
-static STRIPS: [[u16; 3]; 5] = [
-    [0, 1, 0],
-    [1, 1, 0],
-    [2, 3, 63],
-    [128, 5, 191],
-    [383, 5, 191],
+const STRIPS: [(usize, usize, u16); 5] = [
+    (0, 1, 0),
+    (1, 1, 0),
+    (2, 3, 63),
+    (128, 5, 191),
+    (383, 5, 191),
 ];
 
 // A refusal of a caller's own, which takes the fault whole.
@@ -61,9 +61,8 @@ impl From<Unfitted> for Refusal {
 // The words of the items, and half an item behind them.
 fn items(heap: Global) -> Result<Vec<u16>, Fail> {
     let mut words = Vec::new(heap);
-    for row in &ITEMS {
-        words.push(row[0])?;
-        words.push(row[1])?;
+    for item in &ITEMS {
+        words.extend_from_slice(item)?;
     }
     words.push(8)?;
     Ok(words)
@@ -109,14 +108,12 @@ fn lists_name_points(rt: HostRuntime) -> Result<(), Fail> {
 #[test]
 fn first_item_unfitted(rt: HostRuntime) -> Result<(), Fail> {
     let items = items(rt.alloc())?;
-    for row in &STRIPS {
-        let mut words = numbered(rt.alloc(), row[0] as usize)?;
-        let refusal = unfitted(row[1] as usize, row[2], 1);
+    for (length, place, point) in STRIPS {
+        let mut words = numbered(rt.alloc(), length)?;
         assert_eq!(rt;
             ask(&Strip::new(&mut words), &items, 10),
-            Err(refusal),
-            "{}",
-            row[0]
+            Err(unfitted(place, point, 1)),
+            "{length}"
         );
     }
     let mut words = numbered(rt.alloc(), 384)?;

@@ -1,5 +1,6 @@
 // Each plant at the first and last points, at points that it has not, and what a put leaves.
 use crate::bench::{Bench, Terminal};
+use arrayvec::ArrayVec;
 use bus::{Bus, Module};
 use plant::fault::PlantFault;
 use plant::plant::Plant;
@@ -42,17 +43,13 @@ fn check_calls<P: Plant>(
 
 // Words that tell their places.
 pub fn numbered(heap: Global, length: usize) -> Result<Vec<u16>, Fail> {
-    let mut words = Vec::new(heap);
-    for k in 0..length {
-        words.push((k % 1000) as u16 + 1000)?;
-    }
-    Ok(words)
+    Ok((0..length).map(|k| (k % 1000) as u16 + 1000).collect(heap)?)
 }
 
 fn check_strip(rt: &impl Abort, heap: Global, length: usize, point: u16) -> Result<(), Fail> {
     let mut words = numbered(heap, length)?;
     let mut expected = numbered(heap, length)?;
-    let at = 2 * point as usize;
+    let at = 2 * usize::from(point);
     let mut input = None;
     if point < 192 && at + 1 < expected.len() {
         input = Some(expected[at]);
@@ -74,39 +71,39 @@ fn strips(rt: HostRuntime) -> Result<(), Fail> {
 }
 
 // Point, input bytes, output bytes: two records of 5 and of 63, and three that no bus serves.
-static MODULES: [[u16; 5]; 10] = [
-    [5, 1, 2, 3, 4],
-    [200, 9, 9, 9, 9],
-    [5, 7, 7, 7, 7],
-    [191, 255, 255, 0, 0],
-    [0, 0, 128, 1, 1],
-    [192, 8, 8, 8, 8],
-    [65535, 8, 8, 8, 8],
-    [63, 13, 0, 0, 0],
-    [64, 0, 14, 0, 0],
-    [63, 6, 6, 6, 6],
+const MODULES: [(u16, [u8; 4]); 10] = [
+    (5, [1, 2, 3, 4]),
+    (200, [9, 9, 9, 9]),
+    (5, [7, 7, 7, 7]),
+    (191, [255, 255, 0, 0]),
+    (0, [0, 128, 1, 1]),
+    (192, [8, 8, 8, 8]),
+    (65535, [8, 8, 8, 8]),
+    (63, [13, 0, 0, 0]),
+    (64, [0, 14, 0, 0]),
+    (63, [6, 6, 6, 6]),
 ];
 
 // Each point with the place of its first record and its input word.
-static SERVED: [[u16; 3]; 5] = [
-    [5, 0, 513],
-    [191, 3, 65535],
-    [0, 4, 32768],
-    [63, 7, 13],
-    [64, 8, 3584],
+const SERVED: [(u16, usize, u16); 5] = [
+    (5, 0, 513),
+    (191, 3, 65535),
+    (0, 4, 32768),
+    (63, 7, 13),
+    (64, 8, 3584),
 ];
 
 static UNSERVED: [u16; 8] = [1, 62, 65, 190, 192, 200, 32768, 65535];
 
 pub fn modules(heap: Global) -> Result<Vec<Module>, Fail> {
     let mut modules = Vec::new(heap);
-    for row in &MODULES {
+    for (point, [input_low, input_high, output_low, output_high]) in MODULES {
         modules.push(Module {
-            point: row[0],
-            input_low: (row[1] % 256) as u8,
-            input_high: (row[2] % 256) as u8,
-            output_low: (row[3] % 256) as u8,
-            output_high: (row[4] % 256) as u8,
+            point,
+            input_low,
+            input_high,
+            output_low,
+            output_high,
         })?;
     }
     Ok(modules)
@@ -133,8 +130,8 @@ fn check_bus(
 
 #[test]
 fn buses(rt: HostRuntime) -> Result<(), Fail> {
-    for row in &SERVED {
-        check_bus(&rt, rt.alloc(), row[0], row[1] as usize, Some(row[2]))?;
+    for (point, at, input) in SERVED {
+        check_bus(&rt, rt.alloc(), point, at, Some(input))?;
     }
     for point in &UNSERVED {
         check_bus(&rt, rt.alloc(), *point, MODULES.len(), None)?;
@@ -152,14 +149,16 @@ fn benches(rt: HostRuntime) -> Result<(), Fail> {
             input: 5,
             output: 0
         }; 200]?,
-        log: [0; 8],
-        puts: 0,
+        log: ArrayVec::new(),
     };
     for point in &POINTS {
-        let input = if *point < 192 { Some(5) } else { None };
+        let input = (*point < 192).then_some(5);
         check_calls(&rt, &mut bench, *point, input, 7);
     }
-    assert_eq!(rt; bench.log, [0, 0, 1, 1, 63, 63, 64, 64]);
+    assert_eq!(rt;
+        bench.log.as_slice(),
+        [0, 0, 1, 1, 63, 63, 64, 64].as_slice()
+    );
     assert!(rt; bench.terminals.len() == 200);
     assert_eq!(rt; bench.terminals[64].output, WORD);
     assert_eq!(rt; bench.terminals[65].output, 0);
