@@ -1,10 +1,10 @@
 // What a pen puts.
-ghost use Rattle.std.specs.Prelude.{◌≡◌, [], ◌∷◌, decimal, slice_set};
+ghost use Rattle.std.specs.Prelude.{◌≡◌, [], ◌∷◌, slice_set};
 ghost use Rattle.lay.specs.Digits.{two_digits};
 ghost use Rattle.lay.specs.Lays.{Puts};
-ghost use Rattle.std.specs.Fmt.{signed_decimal};
 
 use crate::pen::Pen;
+use itoa::{Buffer, Integer};
 
 impl<'a> Pen<'a> {
     pub fn new(out: &'a mut [u8]) -> Pen<'a>
@@ -53,24 +53,10 @@ impl Pen<'_> {
         self.put_bytes(text.as_bytes());
     }
 
-    pub fn put_natural(&mut self, number: u32)
-        ensures { Puts self.old (decimal number) self.new }
+    pub fn put_number<N: Integer>(&mut self, number: N)
+        ensures { Puts self.old (N.Integer.text number) self.new }
     {
-        if number >= 10 {
-            self.put_natural(number / 10);
-        }
-        self.put_byte(b'0' + (number % 10) as u8);
-    }
-
-    pub fn put_signed(&mut self, value: i32)
-        ensures { Puts self.old (signed_decimal value) self.new }
-    {
-        if value < 0 {
-            self.put_byte(b'-');
-            self.put_natural(value.unsigned_abs())
-        } else {
-            self.put_natural(value as u32)
-        }
+        self.put_text(Buffer::new().format(number));
     }
 
     // A number with two digits at least.
@@ -81,7 +67,7 @@ impl Pen<'_> {
             self.put_byte(b'0');
             self.put_byte(b'0' + number)
         } else {
-            self.put_natural(number as u32)
+            self.put_number(number)
         }
     }
 }

@@ -4,13 +4,13 @@
 ghost use Rattle.item.specs.Mnemonics.{name_of};
 ghost use Rattle.lay.specs.Lays.{Puts};
 ghost use Rattle.script.specs.Texts.{beside, call_text, constant_text, item_text, operand_text, pair_text};
-ghost use Rattle.std.specs.Prelude.{ℕ, List, decimal};
-ghost use Rattle.std.specs.Fmt.{signed_decimal};
+ghost use Rattle.std.specs.Prelude.{ℕ, List};
 
 use constants::decode::signed_word;
 use image::constant::Constant;
 use item::item::Item;
 use item::mnemonic::Mnemonic;
+use itoa::Integer;
 use lay::pen::Pen;
 use operand::operand::Operand;
 
@@ -52,20 +52,12 @@ fn put_assigned(pen: &mut Pen, mnemonic: Mnemonic, operand: Operand)
     put_operand(pen, operand);
 }
 
-fn put_numbered(pen: &mut Pen, mnemonic: Mnemonic, number: u16)
-    ensures { Puts pen.old (beside (name_of mnemonic) (decimal number)) pen.new }
+fn put_numbered<N: Integer>(pen: &mut Pen, mnemonic: Mnemonic, number: N)
+    ensures { Puts pen.old (beside (name_of mnemonic) (N.Integer.text number)) pen.new }
 {
     put_mnemonic(pen, mnemonic);
     pen.put_byte(b' ');
-    pen.put_natural(number as u32);
-}
-
-fn put_valued(pen: &mut Pen, mnemonic: Mnemonic, value: i32)
-    ensures { Puts pen.old (beside (name_of mnemonic) (signed_decimal value)) pen.new }
-{
-    put_mnemonic(pen, mnemonic);
-    pen.put_byte(b' ');
-    pen.put_signed(value);
+    pen.put_number(number);
 }
 
 fn put_call(pen: &mut Pen, number: Option<u16>)
@@ -93,7 +85,7 @@ impl Script for Item {
             Item::EndIf => put_mnemonic(pen, Mnemonic::EndIf),
             Item::Call(number) => put_call(pen, number),
             Item::Kind(block) => pen.put_text(block.name()),
-            Item::Direct(word) => put_valued(pen, Mnemonic::Direct, signed_word(word)),
+            Item::Direct(word) => put_numbered(pen, Mnemonic::Direct, signed_word(word)),
             Item::Mark(mark) => put_numbered(pen, Mnemonic::Mark, mark),
             Item::End => put_mnemonic(pen, Mnemonic::End),
         }
@@ -106,6 +98,6 @@ impl Script for Constant {
     fn put_on(self, pen: &mut Pen) {
         put_operand(pen, self.operand);
         pen.put_text(" := ");
-        pen.put_signed(self.value);
+        pen.put_number(self.value);
     }
 }

@@ -7,4 +7,4 @@ use Rattle.script.proofs.ConstantScript.put_on.Goals as goal
 pub returns : goal.returns
 returns c =
     let f : SFits w32 c.args.self.value = search rules in
-    then c.put_operand.ensures (then c.put_text.ensures (puts_as (ap signed_decimal (to_z-of_z w32 c.args.self.value f)) c.put_signed.ensures))
+    then c.put_operand.ensures (then c.put_text.ensures (puts_as (ap signed_decimal (to_z-of_z w32 c.args.self.value f)) c.put_number.ensures))
