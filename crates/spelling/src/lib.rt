@@ -22,6 +22,7 @@ fn spelt_at<T: Spelled>(edition: Edition, text: &[u8], number: u16) -> Option<T>
 }
 
 // Of the entries of a table, the last one that the text spells.
+#[tactic(auto, using(crate::proofs::Walk::hit, crate::proofs::Walk::miss, crate::proofs::Walk::over))]
 fn find_spelt<T: Spelled>(edition: Edition, text: &[u8]) -> Option<T>
     ensures { result ≡ spelt_below (T.Spelled.entry edition) T.Spelled.spelt text.now T.Spelled.COUNT }
 {
