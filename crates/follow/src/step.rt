@@ -237,6 +237,7 @@ fn read_lawful(size: Size, placed: Placed) -> Result<i32, Misfit>
 }
 
 // The step that a token makes, or its place if it does not fit the one before.
+// What is asked is a case of an enum and no closure, since the contracts compare states and the reader keeps one.
 pub fn next(edition: Edition, state: State, placed: Placed) -> Result<Step, Misfit>
     ensures { result ≡ fitting placed.entry.place (next_step edition state (meaning placed.entry.token)) }
 {

@@ -1,17 +1,17 @@
 // All constants that a list can have.
 use report::report_text;
 use std::alloc::Global;
+use std::ops::Range;
 use std::test::Fail;
 
-// A constant for each place of a kind from `from` to before `to`.
+// A constant for each of these places of a kind.
 fn define_all(
     heap: Global,
     text: &mut Vec<u8>,
     letters: &str,
-    from: u16,
-    to: u16,
+    places: Range<u16>,
 ) -> Result<(), Fail> {
-    for place in from..to {
+    for place in places {
         let group = place / 16;
         let channel = place % 16;
         let constant = format!(in heap; "{letters} {group},{channel} := -{place}\n")?;
@@ -24,9 +24,9 @@ fn define_all(
 #[test]
 fn every_constant(rt: HostRuntime) -> Result<(), Fail> {
     let mut text = b"!PE\n".to_vec(rt.alloc())?;
-    define_all(rt.alloc(), &mut text, "KW", 0, 13)?;
-    define_all(rt.alloc(), &mut text, "KW", 16, 640)?;
-    define_all(rt.alloc(), &mut text, "KD", 0, 128)?;
+    define_all(rt.alloc(), &mut text, "KW", 0..13)?;
+    define_all(rt.alloc(), &mut text, "KW", 16..640)?;
+    define_all(rt.alloc(), &mut text, "KD", 0..128)?;
     let report = report_text(rt.alloc(), &text)?;
     assert_eq!(rt;
         report.line.as_str(),

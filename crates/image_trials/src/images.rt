@@ -75,33 +75,17 @@ fn words_of(heap: Global, shown: &str) -> Result<Vec<u16>, Fail> {
     Ok(words)
 }
 
-// As many words as the image has.
-fn check_full(
+// The image in a buffer with room for so many words more, which are as before.
+fn check_written(
     rt: &impl Abort,
     heap: Global,
     text: &[u8],
     words: &[u16],
-    counts: Written,
-) -> Result<(), Fail> {
-    let mut buffer = vec![in heap; BEFORE; words.len()]?;
-    assert_eq!(rt;
-        translate(heap, Edition::Series90, text, &mut buffer),
-        Ok(counts)
-    );
-    assert_eq!(rt; buffer.as_slice(), words);
-    Ok(())
-}
-
-// More words than the image has: the rest is as before.
-fn check_longer(
-    rt: &impl Abort,
-    heap: Global,
-    text: &[u8],
-    words: &[u16],
+    more: usize,
     counts: Written,
 ) -> Result<(), Fail> {
     let mut expected = words.to_vec(heap)?;
-    for _ in 0..5 {
+    for _ in 0..more {
         expected.push(BEFORE)?;
     }
     let mut buffer = vec![in heap; BEFORE; expected.len()]?;
@@ -134,8 +118,8 @@ fn check_image(
 ) -> Result<(), Fail> {
     let text = text.as_bytes();
     let words = words_of(heap, shown)?;
-    check_full(rt, heap, text, &words, counts)?;
-    check_longer(rt, heap, text, &words, counts)?;
+    check_written(rt, heap, text, &words, 0, counts)?;
+    check_written(rt, heap, text, &words, 5, counts)?;
     for room in 0..words.len() {
         check_shorter(rt, heap, text, room)?;
     }

@@ -24,6 +24,7 @@ fn append_digit(value: u32, digit: u8, limit: u32) -> Option<u32>
 }
 
 // The number of at most `limit` that the digits write.
+#[tactic(auto, using(crate::proofs::Steps::stops, crate::proofs::Steps::goes_on, crate::proofs::Steps::at_end, crate::proofs::Steps::kept))]
 pub fn read_natural(digits: &[u8], limit: u32) -> Option<u32>
     ensures { result ≡ up_to limit (natural digits.now) }
 {

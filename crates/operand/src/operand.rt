@@ -67,13 +67,12 @@ static SYSTEM: [Range; 2] = [
 pub fn operand_at(edition: Edition, kind: Kind, group: u8, channel: u8) -> Option<Operand>
     ensures { result ≡ operand_at edition kind group channel }
 {
-    let place = 16 * group as u16 + channel as u16;
     let operand = Operand {
         kind,
         group,
         channel,
     };
-    (channel <= 15 && in_ranges(edition.ranges(), kind, place)).then_some(operand)
+    (channel <= 15 && in_ranges(edition.ranges(), kind, operand.place())).then_some(operand)
 }
 
 fn at_code(edition: Edition, code: u16) -> Option<Operand>

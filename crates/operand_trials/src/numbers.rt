@@ -144,22 +144,6 @@ fn is_found(rt: &impl Abort, number: u16, back: Option<u16>) -> bool {
     back.is_some()
 }
 
-fn kind_number(number: u16) -> Option<u16> {
-    Some(Kind::try_from(number).ok()?.number())
-}
-
-fn mnemonic_number(number: u16) -> Option<u16> {
-    Some(Mnemonic::try_from(number).ok()?.number())
-}
-
-fn nameless_number(number: u16) -> Option<u16> {
-    Some(Nameless::try_from(number).ok()?.number())
-}
-
-fn block_number(number: u16) -> Option<u16> {
-    Some(Block::numbered(Edition::Series90, number)?.number())
-}
-
 // How many numbers stand for something: no other number does.
 fn count_found<F: Fn(u16) -> Option<u16>>(rt: &impl Abort, number_again: F) -> usize
     requires { F.IsAlwaysCallable number_again }
@@ -175,10 +159,14 @@ fn count_found<F: Fn(u16) -> Option<u16>>(rt: &impl Abort, number_again: F) -> u
 
 #[test]
 fn numbers_are_undone(rt: HostRuntime) {
-    assert_eq!(rt; count_found(&rt, kind_number), 11);
-    assert_eq!(rt; count_found(&rt, mnemonic_number), 34);
-    assert_eq!(rt; count_found(&rt, nameless_number), 3);
-    assert_eq!(rt; count_found(&rt, block_number), 7);
+    let kind = |number| Some(Kind::try_from(number).ok()?.number());
+    assert_eq!(rt; count_found(&rt, kind), 11);
+    let mnemonic = |number| Some(Mnemonic::try_from(number).ok()?.number());
+    assert_eq!(rt; count_found(&rt, mnemonic), 34);
+    let nameless = |number| Some(Nameless::try_from(number).ok()?.number());
+    assert_eq!(rt; count_found(&rt, nameless), 3);
+    let block = |number| Some(Block::numbered(Edition::Series90, number)?.number());
+    assert_eq!(rt; count_found(&rt, block), 7);
 }
 
 // The items whose argument is a word that stands in the text.

@@ -3,14 +3,11 @@
 
 ghost use Rattle.std.specs.Prelude.{◌≡◌, length};
 ghost use Rattle.spelling.specs.Rule.{spellings, Rule, Back, Only};
-ghost use Rattle.spelling.specs.Spellings.{spelt_at, spelt_below, mnemonic_spelt, kind_spelt, block_spelt};
+ghost use Rattle.spelling.specs.Spellings.{spelt_at, spelt_below};
 
-use catalogue::Block;
-use item::mnemonic::Mnemonic;
 use operand::edition::Edition;
-use operand::kind::Kind;
 
-mod spelled;
+pub mod spelled;
 
 use crate::spelled::Spelled;
 
@@ -21,8 +18,9 @@ fn spelt_at<T: Spelled>(edition: Edition, text: &[u8], number: u16) -> Option<T>
     T::with_number(edition, number).filter(|entry| text == entry.spelling().as_bytes())
 }
 
-// Of the entries of a table, the last one that the text spells.
-fn find_spelt<T: Spelled>(edition: Edition, text: &[u8]) -> Option<T>
+// Of the entries of a table that the edition knows, the last one that the text spells.
+#[tactic(auto, using(crate::proofs::Walk::hit, crate::proofs::Walk::miss, crate::proofs::Walk::over))]
+pub fn find_spelt<T: Spelled>(edition: Edition, text: &[u8]) -> Option<T>
     ensures { result ≡ spelt_below (T.Spelled.entry edition) T.Spelled.spelt text.now T.Spelled.COUNT }
 {
     for number in (0..T::COUNT).rev() {
@@ -31,26 +29,6 @@ fn find_spelt<T: Spelled>(edition: Edition, text: &[u8]) -> Option<T>
         }
     }
     None
-}
-
-// Mnemonics and letters are the same in every edition, so it does not matter which is named.
-pub fn mnemonic_spelt(text: &[u8]) -> Option<Mnemonic>
-    ensures { result ≡ mnemonic_spelt text.now }
-{
-    find_spelt(Edition::Series90, text)
-}
-
-pub fn kind_spelt(text: &[u8]) -> Option<Kind>
-    ensures { result ≡ kind_spelt text.now }
-{
-    find_spelt(Edition::Series90, text)
-}
-
-// The block of that name, if the edition knows it.
-pub fn block_spelt(edition: Edition, text: &[u8]) -> Option<Block>
-    ensures { result ≡ block_spelt edition text.now }
-{
-    find_spelt(edition, text)
 }
 
 // There is nothing to run: what is ensured holds of the tables.

@@ -22,6 +22,7 @@ pub(crate) struct Parts<'a> {
 }
 
 // The place of the first byte that is no separator.
+// Each of these is the library's search at a test of its own: one function over the test would be that search again.
 fn part_at(text: &[u8]) -> Option<usize>
     ensures { result ≡ position (λ c. not (is_separator c)) text.now }
 {
