@@ -1,6 +1,6 @@
 // What may come next in a list.
 ghost use Rattle.grammar.specs.Capped.{deepest, capped};
-ghost use Rattle.grammar.specs.Grammar.{grammar, grammar_step, depth_of, begins, due, further, more, kind_due, pin_due, waiting, joins, compares, closes};
+ghost use Rattle.grammar.specs.Grammar.{grammar, grammar_step, depth_of, begins, waiting};
 ghost use Rattle.std.specs.Prelude.{◌≡◌, ◌<◌};
 ghost use Rattle.std.proofs.Common.{rules};
 
@@ -54,88 +54,6 @@ fn begin(item: Item) -> Option<Grammar>
     }
 }
 
-fn term(depth: usize, side: Side, item: Item) -> Option<Grammar>
-    requires { depth < deepest }
-    ensures { result ≡ due depth side item }
-{
-    match item {
-        Item::Open(_) => Some(Grammar::Term(depth + 1, side)),
-        Item::Operand(_) => Some(Grammar::After(depth, side, false)),
-        _ => None,
-    }
-}
-
-// An operator: beside no comparison, but inside brackets.
-fn join(depth: usize, side: Side) -> Option<Grammar>
-    ensures { result ≡ joins depth side }
-{
-    match (depth, side) {
-        (0, Side::Compared) => None,
-        (0, _) => Some(Grammar::Term(0, Side::Joined)),
-        (_, _) => Some(Grammar::Term(depth, side)),
-    }
-}
-
-// A comparison: outside all brackets, in place of operators.
-fn compare(depth: usize, side: Side) -> Option<Grammar>
-    ensures { result ≡ compares depth side }
-{
-    match (depth, side) {
-        (0, Side::First) => Some(Grammar::Term(0, Side::Compared)),
-        (_, _) => None,
-    }
-}
-
-// A closing bracket: not behind NOPs.
-fn close(depth: usize, side: Side, idle: bool) -> Option<Grammar>
-    ensures { result ≡ closes depth side idle }
-{
-    let outer = depth.checked_sub(1)?;
-    (!idle).then_some(Grammar::After(outer, side, false))
-}
-
-fn go_on(depth: usize, side: Side, idle: bool, item: Item) -> Option<Grammar>
-    ensures { result ≡ further depth side idle item }
-{
-    match item {
-        Item::Nop => Some(Grammar::After(depth, side, true)),
-        Item::Close => close(depth, side, idle),
-        Item::Operator(_) => join(depth, side),
-        Item::Compare(_) => compare(depth, side),
-        Item::Assign(_, _) => (depth == 0).then_some(Grammar::Assigned),
-        Item::EndIf => (depth == 0).then_some(Grammar::Between),
-        _ => None,
-    }
-}
-
-fn assign_again(item: Item) -> Option<Grammar>
-    ensures { result ≡ more item }
-{
-    match item {
-        Item::Nop | Item::Assign(_, _) => Some(Grammar::Assigned),
-        Item::EndIf => Some(Grammar::Between),
-        _ => begin(item),
-    }
-}
-
-fn name_kind(item: Item) -> Option<Grammar>
-    ensures { result ≡ kind_due item }
-{
-    match item {
-        Item::Kind(block) => Some(wait(block.pins().len())),
-        _ => None,
-    }
-}
-
-fn take_pin(left: usize, item: Item) -> Option<Grammar>
-    ensures { result ≡ pin_due left item }
-{
-    match item {
-        Item::Pin(_) | Item::Direct(_) => Some(wait(left)),
-        _ => None,
-    }
-}
-
 impl Grammar {
     fn depth(self) -> usize
         ensures { result ≡ depth_of self }
@@ -150,14 +68,37 @@ impl Grammar {
         requires { depth_of self < deepest }
         ensures { result ≡ grammar_step self item }
     {
-        match self {
-            Grammar::Between => begin(item),
-            Grammar::Term(depth, side) => term(depth, side, item),
-            Grammar::After(depth, side, idle) => go_on(depth, side, idle, item),
-            Grammar::Assigned => assign_again(item),
-            Grammar::Named => name_kind(item),
-            Grammar::Pins(left) => take_pin(left, item),
-            Grammar::Done => None,
+        match (self, item) {
+            (Grammar::Between, _) => begin(item),
+            (Grammar::Term(depth, side), Item::Open(_)) => Some(Grammar::Term(depth + 1, side)),
+            (Grammar::Term(depth, side), Item::Operand(_)) => Some(Grammar::After(
+                depth, side, false,
+            )),
+            (Grammar::After(depth, side, _), Item::Nop) => Some(Grammar::After(depth, side, true)),
+            // a closing bracket: not behind NOPs
+            (Grammar::After(depth, side, false), Item::Close) => Some(Grammar::After(
+                depth.checked_sub(1)?,
+                side,
+                false,
+            )),
+            // an operator: beside no comparison, but inside brackets
+            (Grammar::After(0, Side::Compared, _), Item::Operator(_)) => None,
+            (Grammar::After(0, _, _), Item::Operator(_)) => Some(Grammar::Term(0, Side::Joined)),
+            (Grammar::After(depth, side, _), Item::Operator(_)) => Some(Grammar::Term(depth, side)),
+            // a comparison: outside all brackets, in place of operators
+            (Grammar::After(0, Side::First, _), Item::Compare(_)) => Some(Grammar::Term(
+                0,
+                Side::Compared,
+            )),
+            (Grammar::After(0, _, _) | Grammar::Assigned, Item::Assign(_, _)) => Some(
+                Grammar::Assigned,
+            ),
+            (Grammar::After(0, _, _) | Grammar::Assigned, Item::EndIf) => Some(Grammar::Between),
+            (Grammar::Assigned, Item::Nop) => Some(Grammar::Assigned),
+            (Grammar::Assigned, _) => begin(item),
+            (Grammar::Named, Item::Kind(block)) => Some(wait(block.pins().len())),
+            (Grammar::Pins(left), Item::Pin(_) | Item::Direct(_)) => Some(wait(left)),
+            (_, _) => None,
         }
     }
 }
