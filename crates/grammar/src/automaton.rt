@@ -59,45 +59,41 @@ impl Grammar {
         ensures { result ≡ depth_of self }
     {
         match self {
-            Grammar::Term(depth, _) | Grammar::After(depth, _, _) => depth,
+            Self::Term(depth, _) | Self::After(depth, _, _) => depth,
             _ => 0,
         }
     }
 
-    fn follow(self, item: Item) -> Option<Grammar>
+    fn follow(self, item: Item) -> Option<Self>
         requires { depth_of self < deepest }
         ensures { result ≡ grammar_step self item }
     {
         match (self, item) {
-            (Grammar::Between, _) => begin(item),
-            (Grammar::Term(depth, side), Item::Open(_)) => Some(Grammar::Term(depth + 1, side)),
-            (Grammar::Term(depth, side), Item::Operand(_)) => Some(Grammar::After(
-                depth, side, false,
-            )),
-            (Grammar::After(depth, side, _), Item::Nop) => Some(Grammar::After(depth, side, true)),
+            (Self::Between, _) => begin(item),
+            (Self::Term(depth, side), Item::Open(_)) => Some(Self::Term(depth + 1, side)),
+            (Self::Term(depth, side), Item::Operand(_)) => Some(Self::After(depth, side, false)),
+            (Self::After(depth, side, _), Item::Nop) => Some(Self::After(depth, side, true)),
             // a closing bracket: not behind NOPs
-            (Grammar::After(depth, side, false), Item::Close) => Some(Grammar::After(
+            (Self::After(depth, side, false), Item::Close) => Some(Self::After(
                 depth.checked_sub(1)?,
                 side,
                 false,
             )),
             // an operator: beside no comparison, but inside brackets
-            (Grammar::After(0, Side::Compared, _), Item::Operator(_)) => None,
-            (Grammar::After(0, _, _), Item::Operator(_)) => Some(Grammar::Term(0, Side::Joined)),
-            (Grammar::After(depth, side, _), Item::Operator(_)) => Some(Grammar::Term(depth, side)),
+            (Self::After(0, Side::Compared, _), Item::Operator(_)) => None,
+            (Self::After(0, _, _), Item::Operator(_)) => Some(Self::Term(0, Side::Joined)),
+            (Self::After(depth, side, _), Item::Operator(_)) => Some(Self::Term(depth, side)),
             // a comparison: outside all brackets, in place of operators
-            (Grammar::After(0, Side::First, _), Item::Compare(_)) => Some(Grammar::Term(
+            (Self::After(0, Side::First, _), Item::Compare(_)) => Some(Self::Term(
                 0,
                 Side::Compared,
             )),
-            (Grammar::After(0, _, _) | Grammar::Assigned, Item::Assign(_, _)) => Some(
-                Grammar::Assigned,
-            ),
-            (Grammar::After(0, _, _) | Grammar::Assigned, Item::EndIf) => Some(Grammar::Between),
-            (Grammar::Assigned, Item::Nop) => Some(Grammar::Assigned),
-            (Grammar::Assigned, _) => begin(item),
-            (Grammar::Named, Item::Kind(block)) => Some(wait(block.pins().len())),
-            (Grammar::Pins(left), Item::Pin(_) | Item::Direct(_)) => Some(wait(left)),
+            (Self::After(0, _, _) | Self::Assigned, Item::Assign(_, _)) => Some(Self::Assigned),
+            (Self::After(0, _, _) | Self::Assigned, Item::EndIf) => Some(Self::Between),
+            (Self::Assigned, Item::Nop) => Some(Self::Assigned),
+            (Self::Assigned, _) => begin(item),
+            (Self::Named, Item::Kind(block)) => Some(wait(block.pins().len())),
+            (Self::Pins(left), Item::Pin(_) | Item::Direct(_)) => Some(wait(left)),
             (_, _) => None,
         }
     }
@@ -111,7 +107,7 @@ impl Rule for Grammar {
     ghost opened = { Prim.search rules };
 
     fn start() -> Self {
-        Grammar::Between
+        Self::Between
     }
 
     fn step(self, item: Item) -> Option<Self> {
@@ -123,6 +119,6 @@ impl Rule for Grammar {
     }
 
     fn ends(self) -> bool {
-        matches!(self, Grammar::Done)
+        matches!(self, Self::Done)
     }
 }
