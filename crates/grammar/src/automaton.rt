@@ -1,6 +1,6 @@
 // What may come next in a list.
 ghost use Rattle.grammar.specs.Capped.{deepest, capped};
-ghost use Rattle.grammar.specs.Grammar.{grammar, grammar_step, depth_of, begins, due, further, more, kind_due, pin_due, waiting, joins, compares, closes};
+ghost use Rattle.grammar.specs.Grammar.{grammar, grammar_step, depth_of, begins, waiting};
 ghost use Rattle.std.specs.Prelude.{◌≡◌, ◌<◌};
 ghost use Rattle.std.proofs.Common.{rules};
 
@@ -54,110 +54,47 @@ fn begin(item: Item) -> Option<Grammar>
     }
 }
 
-fn term(depth: usize, side: Side, item: Item) -> Option<Grammar>
-    requires { depth < deepest }
-    ensures { result ≡ due depth side item }
-{
-    match item {
-        Item::Open(_) => Some(Grammar::Term(depth + 1, side)),
-        Item::Operand(_) => Some(Grammar::After(depth, side, false)),
-        _ => None,
-    }
-}
-
-// An operator: beside no comparison, but inside brackets.
-fn join(depth: usize, side: Side) -> Option<Grammar>
-    ensures { result ≡ joins depth side }
-{
-    match (depth, side) {
-        (0, Side::Compared) => None,
-        (0, _) => Some(Grammar::Term(0, Side::Joined)),
-        (_, _) => Some(Grammar::Term(depth, side)),
-    }
-}
-
-// A comparison: outside all brackets, in place of operators.
-fn compare(depth: usize, side: Side) -> Option<Grammar>
-    ensures { result ≡ compares depth side }
-{
-    match (depth, side) {
-        (0, Side::First) => Some(Grammar::Term(0, Side::Compared)),
-        (_, _) => None,
-    }
-}
-
-// A closing bracket: not behind NOPs.
-fn close(depth: usize, side: Side, idle: bool) -> Option<Grammar>
-    ensures { result ≡ closes depth side idle }
-{
-    let outer = depth.checked_sub(1)?;
-    (!idle).then_some(Grammar::After(outer, side, false))
-}
-
-fn go_on(depth: usize, side: Side, idle: bool, item: Item) -> Option<Grammar>
-    ensures { result ≡ further depth side idle item }
-{
-    match item {
-        Item::Nop => Some(Grammar::After(depth, side, true)),
-        Item::Close => close(depth, side, idle),
-        Item::Operator(_) => join(depth, side),
-        Item::Compare(_) => compare(depth, side),
-        Item::Assign(_, _) => (depth == 0).then_some(Grammar::Assigned),
-        Item::EndIf => (depth == 0).then_some(Grammar::Between),
-        _ => None,
-    }
-}
-
-fn assign_again(item: Item) -> Option<Grammar>
-    ensures { result ≡ more item }
-{
-    match item {
-        Item::Nop | Item::Assign(_, _) => Some(Grammar::Assigned),
-        Item::EndIf => Some(Grammar::Between),
-        _ => begin(item),
-    }
-}
-
-fn name_kind(item: Item) -> Option<Grammar>
-    ensures { result ≡ kind_due item }
-{
-    match item {
-        Item::Kind(block) => Some(wait(block.pins().len())),
-        _ => None,
-    }
-}
-
-fn take_pin(left: usize, item: Item) -> Option<Grammar>
-    ensures { result ≡ pin_due left item }
-{
-    match item {
-        Item::Pin(_) | Item::Direct(_) => Some(wait(left)),
-        _ => None,
-    }
-}
-
 impl Grammar {
     fn depth(self) -> usize
         ensures { result ≡ depth_of self }
     {
         match self {
-            Grammar::Term(depth, _) | Grammar::After(depth, _, _) => depth,
+            Self::Term(depth, _) | Self::After(depth, _, _) => depth,
             _ => 0,
         }
     }
 
-    fn follow(self, item: Item) -> Option<Grammar>
+    fn follow(self, item: Item) -> Option<Self>
         requires { depth_of self < deepest }
         ensures { result ≡ grammar_step self item }
     {
-        match self {
-            Grammar::Between => begin(item),
-            Grammar::Term(depth, side) => term(depth, side, item),
-            Grammar::After(depth, side, idle) => go_on(depth, side, idle, item),
-            Grammar::Assigned => assign_again(item),
-            Grammar::Named => name_kind(item),
-            Grammar::Pins(left) => take_pin(left, item),
-            Grammar::Done => None,
+        match (self, item) {
+            (Self::Between, _) => begin(item),
+            (Self::Term(depth, side), Item::Open(_)) => Some(Self::Term(depth + 1, side)),
+            (Self::Term(depth, side), Item::Operand(_)) => Some(Self::After(depth, side, false)),
+            (Self::After(depth, side, _), Item::Nop) => Some(Self::After(depth, side, true)),
+            // a closing bracket: not behind NOPs
+            (Self::After(depth, side, false), Item::Close) => Some(Self::After(
+                depth.checked_sub(1)?,
+                side,
+                false,
+            )),
+            // an operator: beside no comparison, but inside brackets
+            (Self::After(0, Side::Compared, _), Item::Operator(_)) => None,
+            (Self::After(0, _, _), Item::Operator(_)) => Some(Self::Term(0, Side::Joined)),
+            (Self::After(depth, side, _), Item::Operator(_)) => Some(Self::Term(depth, side)),
+            // a comparison: outside all brackets, in place of operators
+            (Self::After(0, Side::First, _), Item::Compare(_)) => Some(Self::Term(
+                0,
+                Side::Compared,
+            )),
+            (Self::After(0, _, _) | Self::Assigned, Item::Assign(_, _)) => Some(Self::Assigned),
+            (Self::After(0, _, _) | Self::Assigned, Item::EndIf) => Some(Self::Between),
+            (Self::Assigned, Item::Nop) => Some(Self::Assigned),
+            (Self::Assigned, _) => begin(item),
+            (Self::Named, Item::Kind(block)) => Some(wait(block.pins().len())),
+            (Self::Pins(left), Item::Pin(_) | Item::Direct(_)) => Some(wait(left)),
+            (_, _) => None,
         }
     }
 }
@@ -170,7 +107,7 @@ impl Rule for Grammar {
     ghost opened = { Prim.search rules };
 
     fn start() -> Self {
-        Grammar::Between
+        Self::Between
     }
 
     fn step(self, item: Item) -> Option<Self> {
@@ -182,6 +119,6 @@ impl Rule for Grammar {
     }
 
     fn ends(self) -> bool {
-        matches!(self, Grammar::Done)
+        matches!(self, Self::Done)
     }
 }

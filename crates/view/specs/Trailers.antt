@@ -1,9 +1,10 @@
 -- The parts of an image, as its trailer tells them.
-use Rattle.std.specs.Prelude.{◌≡◌, ℕ, ◌+◌, ◌-◌, ◌*◌, Bool, true, false, ◌&&◌, List, length, take, drop, Some, None, Ok, Err, Option, Result, ◌==◌, nat_le, slice_index}
+use Rattle.std.specs.Prelude.{◌≡◌, ℕ, ◌+◌, ◌-◌, ◌*◌, Bool, true, false, cond, ◌&&◌, List, length, take, drop, Some, None, Ok, Err, Option, Result, ◌==◌, nat_le, slice_index}
 use Rattle.operand.specs.declared.edition.Edition.{Edition}
 use Rattle.operand.specs.Ranges.{edition_numbered}
 use Rattle.image.specs.Images.{most_items, most_constants}
 use Rattle.view.specs.declared.Image.{Image}
+use Rattle.view.specs.declared.Trailer.{Trailer}
 use Rattle.view.specs.declared.OpenRefusal.{OpenRefusal}
 use Rattle.view.specs.declared.OpenRefusal.TheVariants.{NoTrailer, NoEdition, NoFit}
 
@@ -38,11 +39,20 @@ has_trailer ws = nat_le 6 (length ws) && from_end ws 1 == 44081
 abbrev pub known_edition : List ℕ → Bool
 known_edition ws = is_some (edition_in ws)
 
+-- the words of the trailer, if there is one
+abbrev pub trailer_in : List ℕ → Option Trailer
+trailer_in ws =
+    cond (has_trailer ws) (Some (record { back = back_in ws; items = items_in ws; constants = constants_in ws; cells = cells_in ws; edition = from_end ws 2 })) None
+
+-- a trailer's distance to the first item and its numbers of items and constants agree, lie within so many words and within the limits
+abbrev pub sizes_agree : ℕ → ℕ → ℕ → ℕ → Bool
+sizes_agree back items constants words =
+    (back == 2 * items + 3 * constants + 6)
+    && (nat_le back words && (nat_le items most_items && nat_le constants most_constants))
+
 -- question 3: the sizes that the trailer tells agree, lie within the image and within the limits
 abbrev pub sizes_fit : List ℕ → Bool
-sizes_fit ws =
-    (back_in ws == 2 * items_in ws + 3 * constants_in ws + 6)
-    && (nat_le (back_in ws) (length ws) && (nat_le (items_in ws) most_items && nat_le (constants_in ws) most_constants))
+sizes_fit ws = sizes_agree (back_in ws) (items_in ws) (constants_in ws) (length ws)
 
 -- the items' words and the constants' words; what stands before them goes unread
 abbrev pub item_part : List ℕ → List ℕ

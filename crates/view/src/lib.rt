@@ -1,13 +1,14 @@
 // A view over the words of an image.
 #![tactic(auto)]
 
-ghost use Rattle.std.specs.Prelude.{◌≡◌, ◌≤◌, true, length};
-ghost use Rattle.view.specs.Trailers.{from_end, has_trailer, sizes_fit, Opens, InTurn};
+ghost use Rattle.std.specs.Prelude.{◌≡◌};
+ghost use Rattle.view.specs.Trailers.{trailer_in, sizes_agree, Opens, InTurn};
+ghost use Rattle.view.specs.declared.OpenRefusal.TheVariants.{NoEdition};
 
 use constants::decode::Constants;
 use decode::items::Items;
 use image::write::{IDENTIFIER, MOST_CONSTANTS, MOST_ITEMS};
-use operand::edition::Edition;
+use operand::edition::{Edition, UnknownEdition};
 
 // The parts of an image whose trailer is in order. Words before the first item are not seen.
 #[derive(Clone, Copy)]
@@ -52,29 +53,51 @@ pub enum OpenRefusal {
     NoFit,
 }
 
-fn trailer_word(words: &[u16], back: usize) -> u16
-    ensures { result ≡ from_end words.now back }
-{
-    let at = words.len().saturating_sub(back);
-    if at < words.len() { words[at] } else { 0 }
+impl From<UnknownEdition> for OpenRefusal {
+    ghost from_gives = { λ e r. r ≡ NoEdition };
+
+    fn from(_unknown: UnknownEdition) -> OpenRefusal {
+        OpenRefusal::NoEdition
+    }
 }
 
-fn is_image(words: &[u16]) -> bool
-    ensures { result ≡ has_trailer words.now }
-{
-    words.len() >= 6 && trailer_word(words, 1) == IDENTIFIER
+// The words at the end of an image, but for the identifier behind them.
+#[derive(Clone, Copy)]
+struct Trailer {
+    back: u16,
+    items: u16,
+    constants: u16,
+    cells: u16,
+    edition: u16,
 }
 
-fn fits(words: &[u16]) -> bool
-    ensures { result ≡ sizes_fit words.now }
+// The trailer, where there are six words and the last is the identifier.
+fn trailer_of(words: &[u16]) -> Option<Trailer>
+    ensures { result ≡ trailer_in words.now }
 {
-    let back = trailer_word(words, 6) as usize;
-    let items = trailer_word(words, 5) as usize;
-    let constants = trailer_word(words, 4) as usize;
-    back == 2 * items + 3 * constants + 6
-        && back <= words.len()
-        && items <= MOST_ITEMS
-        && constants <= MOST_CONSTANTS
+    let [back, items, constants, cells, edition, identifier] = *words.last_chunk::<6>()?;
+    (identifier == IDENTIFIER).then_some(Trailer {
+        back,
+        items,
+        constants,
+        cells,
+        edition,
+    })
+}
+
+impl Trailer {
+    // Whether the sizes agree, lie within so many words and keep the limits.
+    fn fits(self, words: usize) -> bool
+        ensures { result ≡ sizes_agree self.back self.items self.constants words }
+    {
+        let back = self.back as usize;
+        let items = self.items as usize;
+        let constants = self.constants as usize;
+        back == 2 * items + 3 * constants + 6
+            && back <= words
+            && items <= MOST_ITEMS
+            && constants <= MOST_CONSTANTS
+    }
 }
 
 // The parts of an image, or the first of the questions 1 to 3 that gets a no.
@@ -82,22 +105,18 @@ pub fn view_image<'a>(words: &'a [u16]) -> Result<Image<'a>, OpenRefusal>
     ensures opens { Opens words.now result }
     ensures in_turn { InTurn words.now result }
 {
-    if !is_image(words) {
-        return Err(OpenRefusal::NoTrailer);
-    }
-    let Ok(edition) = Edition::try_from(trailer_word(words, 2)) else {
-        return Err(OpenRefusal::NoEdition);
-    };
-    if !fits(words) {
+    let trailer = trailer_of(words).ok_or(OpenRefusal::NoTrailer)?;
+    let edition = Edition::try_from(trailer.edition)?;
+    if !trailer.fits(words.len()) {
         return Err(OpenRefusal::NoFit);
     }
-    let first = words.len() - trailer_word(words, 6) as usize;
-    let behind = first + 2 * trailer_word(words, 5) as usize;
-    let end = behind + 3 * trailer_word(words, 4) as usize;
+    let first = words.len() - trailer.back as usize;
+    let behind = first + 2 * trailer.items as usize;
+    let end = behind + 3 * trailer.constants as usize;
     Ok(Image {
         edition,
         items: &words[first..behind],
         constants: &words[behind..end],
-        cells: trailer_word(words, 3),
+        cells: trailer.cells,
     })
 }
