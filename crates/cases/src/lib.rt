@@ -4,4 +4,7 @@
 // \n, \r, \t and \x with two digits for bytes that a line of a file cannot have.
 #![tactic(auto)]
 
+pub mod buffer;
 pub mod escape;
+pub mod lines;
+pub mod text;
