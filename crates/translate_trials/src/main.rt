@@ -1,37 +1,26 @@
 // Reads texts, each with the line that is to be printed of it, and tells how many of them come out so.
+//
+// A case is written `LINE |TEXT|`, or `LINE |FRONT|PART|TIMES|BACK|` where PART stands many times.
 #![tactic(auto)]
 
-use case::{Case, read_case, try_case};
+use cases::buffer::leaves_buffer;
+use cases::lines::try_lines;
+use cases::text::{cut, read_text};
+use report::report_text;
+use std::alloc::Global;
 
-mod case;
-
-// Prints what came in place of what was expected.
-fn comes_out(rt: &HostRuntime, shown: &str, case: &Case) -> anyhow::Result<bool> {
-    match try_case(rt.alloc(), case)? {
-        None => Ok(true),
-        Some(wrong) => {
-            println!(rt; "{wrong}: {shown}")?;
-            Ok(false)
-        }
-    }
-}
-
-fn run(rt: &HostRuntime) -> anyhow::Result<()> {
-    let mut right = 0usize;
-    let mut all = 0usize;
-    for line in rt.lines(rt.alloc()) {
-        let line = line?;
-        if let Some(case) = read_case(rt.alloc(), line.as_str())? {
-            all = all.saturating_add(1);
-            if comes_out(rt, line.as_str(), &case)? {
-                right = right.saturating_add(1);
-            }
-        }
-    }
-    println!(rt; "{right} of {all} texts")?;
-    Ok(())
+// What came in place of what was due, if anything did.
+fn try_case(heap: Global, case: &str) -> anyhow::Result<Option<String>> {
+    let (line, rest) = cut(case)?;
+    let line = line.trim_end();
+    let text = read_text(heap, rest)?;
+    let report = report_text(heap, &text)?;
+    let is_due = report.line.as_str() == line
+        && report.is_accepted() == line.starts_with("translated")
+        && leaves_buffer(heap, &text);
+    Ok((!is_due).then_some(report.line))
 }
 
 fn main(rt: HostRuntime) -> anyhow::Result<()> {
-    run(&rt)
+    try_lines(&rt, "texts", try_case)
 }
