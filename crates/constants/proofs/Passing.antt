@@ -36,34 +36,36 @@ short e (a ∷ b ∷ c ∷ ws) h = absurd (omega arith)
 pub constants_all : (e : Edition) (ws : List ℕ) (i : ℕ) → i ≡ length ws / 3 → constants_from e ws i ≡ []
 constants_all e ws i q = short e (drop (3 * i) ws) (simp length-drop (omega arith))
 
-behind : (last : Option Operand) (o : Option Constant) (cs : List (Option Constant)) (p : ℕ) → fault_behind (allowed last o) cs p ≡ constant_fault last (o ∷ cs) p
-unfolding constant_fault
-behind last None cs p = refl
-behind last (Some c) cs p = by (constant_fits last c.operand)
-  where
-    by : (b : Bool) → fault_behind (cond b (Some c.operand) None) cs p ≡ cond b (constant_fault (Some c.operand) cs (p + 1)) (Some p)
-    by true = refl
-    by false = refl
-
--- the first constant may stand behind the last one, or not
-pub turn : (last : Option Operand) (xs ys : List (Option Constant)) (x : Option Constant) (p : ℕ) (r : Option Operand) → xs ≡ x ∷ ys → r ≡ allowed last x
-    → fault_behind r ys p ≡ constant_fault last xs p
-turn last xs ys x p r h q =
-    ap (λ (o : Option Operand). fault_behind o ys p) q ∙ (behind last x ys p ∙ ap (λ (cs : List (Option Constant)). constant_fault last cs p) (sym h))
-
--- none is left
-pub ended : (last : Option Operand) (xs : List (Option Constant)) (p : ℕ) → xs ≡ [] → None ≡ constant_fault last xs p
-unfolding constant_fault
-ended last xs p h = ap (λ (cs : List (Option Constant)). constant_fault last cs p) (sym h)
-
 -- the first constant, and those behind it
-pub constants_next : (e : Edition) (ws triple rest : List ℕ) (c : Option Constant) → triple ≡ take 3 ws → rest ≡ drop 3 ws → length rest + 3 ≡ length ws
-    → c ≡ constant_decoded e (get_or triple 0 0) (get_or triple 1 0) (get_or triple 2 0) → constants_of e ws ≡ c ∷ constants_of e rest
+pub constants_next : (e : Edition) (ws rest : List ℕ) (c : Option Constant) → rest ≡ drop 3 ws → length rest + 3 ≡ length ws
+    → c ≡ constant_decoded e (get_or (take 3 ws) 0 0) (get_or (take 3 ws) 1 0) (get_or (take 3 ws) 2 0) → constants_of e ws ≡ c ∷ constants_of e rest
 unfolding constants_of
-constants_next e [] triple rest c p r l q = absurd (omega arith)
-constants_next e (a ∷ []) triple rest c p r l q = absurd (omega arith)
-constants_next e (a ∷ b ∷ []) triple rest c p r l q = absurd (omega arith)
-constants_next e (a ∷ b ∷ d ∷ ws) triple rest c p r l q =
-    let first : constant_decoded e (get_or triple 0 0) (get_or triple 1 0) (get_or triple 2 0) ≡ constant_decoded e a b d = ap (λ (xs : List ℕ). constant_decoded e (get_or xs 0 0) (get_or xs 1 0) (get_or xs 2 0)) p in
-    let one = q ∙ first in
-    λ j. sym one j ∷ constants_of e (sym r j)
+constants_next e [] rest c r l q = absurd (omega arith)
+constants_next e (a ∷ []) rest c r l q = absurd (omega arith)
+constants_next e (a ∷ b ∷ []) rest c r l q = absurd (omega arith)
+constants_next e (a ∷ b ∷ d ∷ ws) rest c r l q = λ j. sym q j ∷ constants_of e (sym r j)
+
+module _ (last : Option Operand) (p : ℕ) where
+  pub fault_cons : (x : Option Constant) (ys : List (Option Constant)) → constant_fault last (x ∷ ys) p ≡ fault_behind (allowed last x) ys p
+  unfolding constant_fault
+  fault_cons None ys = refl
+  fault_cons (Some c) ys = by (constant_fits last c.operand)
+    where
+      by : (b : Bool) → cond b (constant_fault (Some c.operand) ys (p + 1)) (Some p) ≡ fault_behind (cond b (Some c.operand) None) ys p
+      by true = refl
+      by false = refl
+
+  pub fault_none : constant_fault last [] p ≡ None
+  unfolding constant_fault
+  fault_none = refl
+
+module _ (o : Option Operand) (ys : List (Option Constant)) (p : ℕ) where
+  -- a constant at fault, and one that is not
+  pub fault_at : o ≡ None → fault_behind o ys p ≡ Some p
+  fault_at h = ap (λ (q : Option Operand). fault_behind q ys p) h
+
+  pub fault_past : (t : Operand) → o ≡ Some t → fault_behind o ys p ≡ constant_fault (Some t) ys (p + 1)
+  fault_past t h = ap (λ (q : Option Operand). fault_behind q ys p) h
+
+-- what the pass over the constants takes from turn to turn
+pub ruleset passing = (fault_cons, fault_at, fault_past, fault_none)

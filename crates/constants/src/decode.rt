@@ -77,6 +77,7 @@ impl<'a> Iterator for Constants<'a> {
 
     ghost remaining = { λ s. at_most (length s.words.now / 3) };
 
+    #[tactic(auto, using(crate::proofs::Passing::constants_next, crate::proofs::Passing::short))]
     fn next(&mut self) -> Option<Option<Constant>> {
         let (triple, rest) = self.words.split_first_chunk::<3>()?;
         self.words = rest;

@@ -18,6 +18,7 @@ fn allowed(last: Option<Operand>, constant: Option<Constant>) -> Option<Operand>
 }
 
 // A pass of its own beside that of the rules over items: it has no early end, and a constant is neither an item nor bound by their laws on marks.
+#[tactic(auto, using(crate::proofs::Passing::passing))]
 fn find_fault(constants: Constants) -> Option<usize>
     ensures { result ≡ constant_fault None-of (constants_of constants.entry.edition constants.entry.words.now) 0 }
 {

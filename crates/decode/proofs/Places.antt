@@ -41,15 +41,12 @@ items_length e (n ∷ []) = refl
 items_length e (n ∷ a ∷ ws) = let h = items_length e ws in omega arith
 
 -- the first item, and those behind it
-pub items_next : (e : Edition) (ws pair rest : List ℕ) (i : Option Item) → pair ≡ take 2 ws → rest ≡ drop 2 ws → length rest + 2 ≡ length ws
-    → i ≡ item_decoded e (get_or pair 0 0) (get_or pair 1 0) → items_of e ws ≡ i ∷ items_of e rest
+pub items_next : (e : Edition) (ws rest : List ℕ) (i : Option Item) → rest ≡ drop 2 ws → length rest + 2 ≡ length ws
+    → i ≡ item_decoded e (get_or (take 2 ws) 0 0) (get_or (take 2 ws) 1 0) → items_of e ws ≡ i ∷ items_of e rest
 unfolding items_of
-items_next e [] pair rest i p r l q = absurd (omega arith)
-items_next e (n ∷ []) pair rest i p r l q = absurd (omega arith)
-items_next e (n ∷ a ∷ ws) pair rest i p r l q =
-    let first : item_decoded e (get_or pair 0 0) (get_or pair 1 0) ≡ item_decoded e n a = ap (λ (xs : List ℕ). item_decoded e (get_or xs 0 0) (get_or xs 1 0)) p in
-    let one = q ∙ first in
-    λ j. sym one j ∷ items_of e (sym r j)
+items_next e [] rest i r l q = absurd (omega arith)
+items_next e (n ∷ []) rest i r l q = absurd (omega arith)
+items_next e (n ∷ a ∷ ws) rest i r l q = λ j. sym q j ∷ items_of e (sym r j)
 
 -- a walk over the items stands at place p: the next item is the one there, and those behind it stand from the next place on
 pub item_here : (e : Edition) (ws : List ℕ) (p : ℕ) (xs ys : List (Option Item)) (x : Option Item) → xs ≡ items_from e ws p → xs ≡ x ∷ ys

@@ -46,6 +46,7 @@ impl<'a> Iterator for Items<'a> {
 
     ghost remaining = { λ s. at_most (length s.words.now / 2) };
 
+    #[tactic(auto, using(crate::proofs::Places::items_next, crate::proofs::Places::short))]
     fn next(&mut self) -> Option<Option<Item>> {
         let (pair, rest) = self.words.split_first_chunk::<2>()?;
         self.words = rest;

@@ -13,14 +13,15 @@ number_at (suc k) (suc p) ws h =
     let on : 2 + 2 * p ≡ 2 * suc p = omega arith in
     number_at k p (drop 2 ws) (omega arith) ∙ (get_or-drop 2 ws (2 * p) 0 ∙ ap (λ n. get_or ws n 0) on)
 
--- an item more
-pub none_yet : (e : Edition) (ws : List ℕ) → 0 ≡ cells_before e ws 0
-unfolding cells_before
-none_yet e ws = refl
+module _ (e : Edition) (ws : List ℕ) where
+  pub none_yet : cells_before e ws 0 ≡ 0
+  unfolding cells_before
+  none_yet = refl
 
-pub one_more : (e : Edition) (ws : List ℕ) (p sum cells : ℕ) → sum ≡ cells_before e ws p → cells ≡ cells_asked (item_at e ws p) → sum + cells ≡ cells_before e ws (p + 1)
-unfolding cells_before
-one_more e ws p sum cells h q =
-    let on : suc p ≡ p + 1 = omega arith in
-    let s : sum + cells ≡ cells_before e ws p + cells_asked (item_at e ws p) = omega arith in
-    s ∙ ap (cells_before e ws) on
+  -- an item more
+  pub one_more : (p : ℕ) → cells_before e ws (p + 1) ≡ cells_before e ws p + cells_asked (item_at e ws p)
+  unfolding cells_before
+  one_more p = let on : p + 1 ≡ suc p = omega arith in ap (cells_before e ws) on
+
+-- what the sum takes from item to item
+pub ruleset adding = (number_at, none_yet, one_more)

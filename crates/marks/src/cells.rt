@@ -23,6 +23,7 @@ fn cells_at(items: Items, place: usize, number: u16) -> usize
 }
 
 // The history cells of all calls.
+#[tactic(auto, using(crate::proofs::Sums::adding))]
 pub fn count_cells(items: Items) -> usize
     ensures { result ≡ all_cells items.entry.edition items.entry.words.now }
 {

@@ -1,22 +1,30 @@
 -- One turn of the pass.
-use Rattle.std.proofs.Common.{◌≡◌, ℕ, ◌+◌, Bool, true, false, cond, not, List, [], ◌∷◌, Some, None, Option, sym, refl, ap, ◌∙◌}
-use Rattle.std.specs.Bool.{then_some}
+use Rattle.std.proofs.Common.{◌≡◌, ℕ, ◌+◌, true, false, cond, Bool, List, [], ◌∷◌, Some, None, Option, refl, ap}
 use Rattle.item.specs.declared.item.Item.{Item}
+use Rattle.decode.proofs.Places.{items_length}
 use Rattle.rule.specs.Automata.{Automaton, stepped, fault_on, fault_from}
 
 module _ {S : Type 0} (a : Automaton S) (s : S) (p : ℕ) where
-  -- the first item leads to a state, or to none
-  pub turn : (xs ys : List (Option Item)) (x : Option Item) (o : Option S) → xs ≡ x ∷ ys → o ≡ stepped a s x
-      → fault_on p (λ t. fault_from a ys t (p + 1)) o ≡ fault_from a xs s p
+  pub fault_cons : (x : Option Item) (ys : List (Option Item)) → fault_from a (x ∷ ys) s p ≡ fault_on p (λ t. fault_from a ys t (p + 1)) (stepped a s x)
   unfolding fault_from
-  turn xs ys x o h q =
-      ap (fault_on p (λ t. fault_from a ys t (p + 1))) q ∙ ap (λ (zs : List (Option Item)). fault_from a zs s p) (sym h)
+  fault_cons x ys = refl
 
   -- no item is left
-  pub ended : (xs : List (Option Item)) (b : Bool) → xs ≡ [] → b ≡ a.ends s → then_some (not b) p ≡ fault_from a xs s p
+  pub fault_none : a.ends s ≡ true → fault_from a [] s p ≡ None
   unfolding fault_from
-  ended xs b h q = by b ∙ ap (λ (c : Bool). cond c None (Some p)) q ∙ ap (λ (zs : List (Option Item)). fault_from a zs s p) (sym h)
-    where
-      by : (c : Bool) → then_some (not c) p ≡ cond c None (Some p)
-      by true = refl
-      by false = refl
+  fault_none q = ap (λ (b : Bool). cond b None (Some p)) q
+
+  pub fault_end : a.ends s ≡ false → fault_from a [] s p ≡ Some p
+  unfolding fault_from
+  fault_end q = ap (λ (b : Bool). cond b None (Some p)) q
+
+module _ {S : Type 0} (p : ℕ) (rest : S → Option ℕ) (o : Option S) where
+  -- an item at fault, and one that is not
+  pub fault_at : o ≡ None → fault_on p rest o ≡ Some p
+  fault_at h = ap (fault_on p rest) h
+
+  pub fault_past : (t : S) → o ≡ Some t → fault_on p rest o ≡ rest t
+  fault_past t h = ap (fault_on p rest) h
+
+-- what the pass over the items takes from turn to turn
+pub ruleset passing = (fault_cons, fault_at, fault_past, fault_none, fault_end, items_length)

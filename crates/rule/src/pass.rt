@@ -15,6 +15,7 @@ fn advance<R: Rule>(state: R, item: Option<Item>) -> Option<R>
 }
 
 // The place of the first item that is unknown or that the rule refuses; their number where the list ends too early.
+#[tactic(auto, using(crate::proofs::Passing::passing))]
 pub fn find_fault<R: Rule>(items: Items) -> Option<usize>
     ensures { result ≡ first_fault R.Rule.automaton (items_of items.entry.edition items.entry.words.now) }
 {
