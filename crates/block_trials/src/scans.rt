@@ -232,13 +232,9 @@ fn holds(line: &str, kind: &mut Block, history: &mut [i32; 1024]) -> Option<bool
 fn blocks_go_scan_by_scan(rt: HostRuntime) {
     let mut kind = Block::Esv;
     let mut history = [9; 1024];
-    let mut holding = 0usize;
-    for line in SCANS.lines() {
-        if holds(line, &mut kind, &mut history) != Some(true) {
-            break;
-        }
-        holding = holding.saturating_add(1);
-    }
     // the lines up to the first that does not hold
-    assert_eq!(rt; holding, 175);
+    let holding = SCANS
+        .lines()
+        .take_while(|line| holds(line, &mut kind, &mut history) == Some(true));
+    assert_eq!(rt; holding.count(), 175);
 }

@@ -17,7 +17,8 @@ use block::window::work_at;
 use block::worked::Worked;
 use catalogue::Block;
 
-// Works a call of that kind, whose first cell is at `first`.
+// Works a call of that kind, whose first cell is at `first`. A `match` and no `dyn`: the clauses name the
+// kind's meaning, which a `dyn` would hide.
 pub fn work_block(kind: Block, call: &Call, history: &mut [i32; 1024], first: usize) -> Worked
     ensures told { result ≡ worked_at (meaning_of kind) call.now.inputs history.old first call.now.ms }
     ensures lawful { outputs_fit (pins_of kind) result.outputs ≡ true }

@@ -26,11 +26,9 @@ fn asked_to_explain(rt: &HostRuntime) -> anyhow::Result<bool> {
 
 fn print_explained(rt: &HostRuntime, text: &[u8], told: Told) -> anyhow::Result<()> {
     let mut words = [0; MOST_WORDS];
-    let items = match translate(rt.alloc(), Edition::Series90, text, &mut words) {
-        Ok(written) => 2 * usize::from(written.items),
-        Err(_) => 0,
-    };
-    let items = items.min(MOST_WORDS);
+    let items = translate(rt.alloc(), Edition::Series90, text, &mut words)
+        .map_or(0, |written| 2 * usize::from(written.items))
+        .min(MOST_WORDS);
     let mut lines = [0; EXPLAINED];
     let length = explain(told, text, &words[..items], &mut lines);
     let length = length.min(EXPLAINED);

@@ -8,11 +8,9 @@
 use cases::buffer::leaves_buffer;
 use cases::lines::try_lines;
 use cases::text::{cut, read_text};
-use operand::edition::Edition;
 use outcome::{report_image, report_text};
-use report::{MOST_WORDS, Report};
+use report::Report;
 use std::alloc::{AllocError, Global};
-use translate::translate::translate;
 
 fn read_words(heap: Global, shown: &str) -> anyhow::Result<Vec<u16>> {
     let mut words = Vec::new(heap);
@@ -27,20 +25,6 @@ fn read_words(heap: Global, shown: &str) -> anyhow::Result<Vec<u16>> {
     Ok(words)
 }
 
-// What the translator comes to.
-fn translated(heap: Global, text: &[u8]) -> Result<String, AllocError> {
-    let mut words = [0; MOST_WORDS];
-    match translate(heap, Edition::Series90, text, &mut words) {
-        Ok(written) => {
-            let items = written.items;
-            let constants = written.constants;
-            let cells = written.cells;
-            format!(in heap; "translated {items} items {constants} constants {cells} cells")
-        }
-        Err(refusal) => refusal.told().ok_or(AllocError)?.to_string(heap),
-    }
-}
-
 // A report's line; where it does not go with what it says of the list, with a remark.
 fn reported(heap: Global, report: Report) -> Result<String, AllocError> {
     let line = report.line.as_str();
@@ -51,17 +35,17 @@ fn reported(heap: Global, report: Report) -> Result<String, AllocError> {
     }
 }
 
-// Both lines of a text; one where they are the same.
+// What the translator comes to, and what the check; one where they are the same.
 fn text_line(heap: Global, text: &[u8]) -> Result<String, AllocError> {
     if !leaves_buffer(heap, text) {
         return String::from_str(heap, "a buffer was changed");
     }
-    let first = translated(heap, text)?;
-    let second = reported(heap, report_text(heap, text)?)?;
-    if first.as_str() == second.as_str() {
-        Ok(first)
+    let translated = report::report_text(heap, text)?.line;
+    let checked = reported(heap, report_text(heap, text)?)?;
+    if translated.as_str() == checked.as_str() {
+        Ok(translated)
     } else {
-        format!(in heap; "{first} / {second}")
+        format!(in heap; "{translated} / {checked}")
     }
 }
 

@@ -11,7 +11,7 @@ pub trait Plant {
 
     ghost inside: { (s : Self) → Inside (meaning s) };
 
-    // The number that its faults carry, the same for all plants of a make.
+    // The number that its faults carry, the same for all plants of a make. No enum: makes are added by others.
     ghost layer: { ℕ };
 
     // What the make keeps of takes and puts, and what it keeps after one more.

@@ -1,5 +1,6 @@
 // Operands read and stored, and history cells.
-ghost use Rattle.std.specs.Prelude.{◌≡◌};
+ghost use Rattle.std.specs.Prelude.{◌≡◌, ◌<◌, slice_index_or};
+ghost use Rattle.store.specs.Chains.{is_set, no_chain};
 ghost use Rattle.store.specs.Values.{value_at, cell_at};
 ghost use Rattle.store.specs.Changes.{new_store, step_set, stored_at, cell_put, cells_cleared};
 
@@ -10,9 +11,7 @@ use crate::word::{bit, limited_word, signed};
 use number::limit::{Width, correct, limit};
 use operand::kind::Kind;
 
-// What stands for a chain past the last: no step of it is set.
-const NO_CHAIN: Chain = Chain { set: 16 };
-
+// Kind and place go side by side: each call matches on the kind, and an `Operand` names fewer places.
 impl Store {
     pub fn new() -> Store
         ensures { result ≡ new_store }
@@ -41,7 +40,7 @@ impl Store {
             Kind::Input => bit(at(&self.inputs, p, false)),
             Kind::Output => bit(at(&self.outputs, p, false)),
             Kind::Marker => bit(at(&self.markers, p, false)),
-            Kind::Step => bit(at(&self.chains, p / 16, NO_CHAIN).is_set((place % 16) as u8)),
+            Kind::Step => bit(self.is_step_set(p / 16, (place % 16) as u8)),
             Kind::Constant => bit(place == 1),
             Kind::InputWord => correct(Width::Word, signed(at(&self.input_words, p, 0))),
             Kind::OutputWord => correct(Width::Word, i32::from(at(&self.output_words, p, 0))),
@@ -52,12 +51,23 @@ impl Store {
         }
     }
 
+    // Whether a step is set; none is in a chain past the last.
+    fn is_step_set(&self, group: usize, step: u8) -> bool
+        requires { step < 16 }
+        ensures { result ≡ is_set (slice_index_or self.now.chains group no_chain) step }
+    {
+        self.chains
+            .get(group)
+            .is_some_and(|chain| chain.is_set(step))
+    }
+
     // Sets a step: the chain then has no other one set.
     fn set_step(&mut self, group: usize, step: u8)
         ensures { self.new ≡ step_set self.old group step }
     {
-        let chain = at(&self.chains, group, NO_CHAIN);
-        put(&mut self.chains, group, chain.moved_to(step));
+        if let Some(chain) = self.chains.get(group).copied() {
+            self.chains[group] = chain.moved_to(step);
+        }
     }
 
     // Stores a value in an operand that lists may write; a step is set by a value that is not 0 and left by 0.

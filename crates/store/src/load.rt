@@ -56,7 +56,8 @@ impl Store {
         bits(at(&self.output_words, usize::from(place), 0))
     }
 
-    // Clears the groups of a kind from `first` to `last`.
+    // Clears the groups of a kind from `first` to `last`. An inclusive range would also tell whether it was
+    // used up.
     pub fn clear(&mut self, kind: Kind, first: u8, last: u8)
         ensures { self.new ≡ cleared_at self.old kind first last }
     {
