@@ -2,6 +2,6 @@
 #![tactic(auto)]
 
 #[cfg(test)]
-mod constants;
+mod defined;
 #[cfg(test)]
 mod images;
