@@ -66,6 +66,7 @@ impl TryFrom<u16> for Nameless {
 }
 
 impl Item {
+    // The number of the item's mnemonic; one that is written without a mnemonic has its own.
     pub fn number(self) -> u16
         ensures { result ≡ number_of self }
     {

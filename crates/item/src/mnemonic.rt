@@ -65,6 +65,7 @@ pub enum Mnemonic {
 pub struct UnknownMnemonic(pub u16);
 
 impl Mnemonic {
+    // A case that holds a turn, an operator or a form has no number of its own to be cast, so the numbers stand in a match.
     pub fn number(self) -> u16
         ensures { result ≡ number_of self }
     {

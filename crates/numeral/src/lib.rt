@@ -74,6 +74,7 @@ fn in_range(number: i64, low: i32, high: i32) -> Option<i32>
 }
 
 // The number from `low` to `high` that the text writes.
+// The ends are two numbers, since a range of the library also holds whether it was run through, and each contract would ask that.
 pub fn read_value(text: &[u8], low: i32, high: i32) -> Option<i32>
     ensures { result ≡ within low high (written_as text.now) }
 {

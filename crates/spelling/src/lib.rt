@@ -19,6 +19,7 @@ fn spelt_at<T: Spelled>(edition: Edition, text: &[u8], number: u16) -> Option<T>
 }
 
 // Of the entries of a table that the edition knows, the last one that the text spells.
+// Tried: `find_map` over the reversed numbers; nothing tells which numbers a reversed range gives, and the proof didn't close.
 #[tactic(auto, using(crate::proofs::Walk::hit, crate::proofs::Walk::miss, crate::proofs::Walk::over))]
 pub fn find_spelt<T: Spelled>(edition: Edition, text: &[u8]) -> Option<T>
     ensures { result ≡ spelt_below (T.Spelled.entry edition) T.Spelled.spelt text.now T.Spelled.COUNT }

@@ -31,6 +31,7 @@ fn write_program(
 
 // Translates a text: its image stands first in the buffer, and the rest is as before.
 // A refusal leaves the whole buffer as it was.
+// Allocator and edition are two arguments, as the library's calls take an allocator: a struct of the two would have no other use.
 #[tactic(auto, using(crate::proofs::Laws::translated_writes, crate::proofs::Laws::written_translates))]
 pub fn translate(
     heap: Global,
