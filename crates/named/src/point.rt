@@ -27,14 +27,10 @@ fn point_from(side: Side, first: u16, number: u16, limit: u16) -> Option<NamedPo
     requires { first + limit ≤ 65535 }
     ensures { result ≡ cond (nat_lt number limit) (at_side side (first + number)) None-of }
 {
-    if number < limit {
-        Some(NamedPoint {
-            side,
-            point: first + number,
-        })
-    } else {
-        None
-    }
+    (number < limit).then(|| NamedPoint {
+        side,
+        point: first + number,
+    })
 }
 
 // Points 0 to 63 are the groups of E and A.
