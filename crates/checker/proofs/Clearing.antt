@@ -1,5 +1,5 @@
 -- Questions that all get a yes.
-use Rattle.std.proofs.Common.{◌≡◌, ℕ, Bool, true, false, List, [], ◌∷◌, ◌++◌, Some, None, Option, sym, refl, ap, ◌∙◌, arith}
+use Rattle.std.proofs.Common.{◌≡◌, ℕ, Bool, true, false, List, [], ◌∷◌, ◌++◌, Some, None, Option, sym, refl, ap, ◌∙◌}
 use Rattle.told.specs.declared.Told.{Told}
 use Rattle.checker.specs.Verdict.{Question, unless, no_or, first_no, then_no, unless_refused, passed}
 
@@ -14,7 +14,7 @@ all_clear (q ∷ qs) a c = ap (λ (o : Option ℕ). no_or q.number o (first_no q
 
 both_clear : (n : ℕ) (o : Option ℕ) (r : Option Told) → no_or n o r ≡ None → (o ≡ None) × (r ≡ None)
 both_clear n None r h = (refl, h)
-both_clear n (Some p) r h = let z : ◌≡◌ {A = ℕ} 0 1 = cc in absurd (omega arith)
+both_clear n (Some p) r h = cc
 
 pub each_clear : {A : Type 0} (qs : List (Question A)) (a : A) → first_no qs a ≡ None → Clear qs a
 each_clear [] a h = tt
@@ -29,12 +29,12 @@ behind_clear (q ∷ qs) rs a h =
 
 pub then_clear : (o r : Option Told) → then_no o r ≡ None → (o ≡ None) × (r ≡ None)
 then_clear None r h = (refl, h)
-then_clear (Some t) r h = let z : ◌≡◌ {A = ℕ} 0 1 = cc in absurd (omega arith)
+then_clear (Some t) r h = cc
 
 pub unless_yes : (b : Bool) → unless b ≡ None → b ≡ true
 unless_yes true h = refl
-unless_yes false h = let z : ◌≡◌ {A = ℕ} 0 1 = cc in absurd (omega arith)
+unless_yes false h = cc
 
 pub not_refused : (o : Option Told) (ws : List ℕ) (n h : ℕ) → unless_refused o ws ≡ passed n h → o ≡ None
 not_refused None ws n h e = refl
-not_refused (Some t) ws n h e = let z : ◌≡◌ {A = ℕ} 0 1 = cc in absurd (omega arith)
+not_refused (Some t) ws n h e = cc

@@ -38,7 +38,7 @@ use Rattle.checker.proofs.Deciding.{opened_verdict, item_length, constant_length
 -- question 5: where no item is unknown, all are known
 
 some_step : (os : List (Option Item)) (s : Nothing) (p : ℕ) (x : Option Item) → fault_on p (λ t. fault_from knowns os t (p + 1)) (stepped knowns s x) ≡ None → (i : Item) × (x ≡ Some i) × (fault_from knowns os s (p + 1) ≡ None)
-some_step os s p None h = let z : ◌≡◌ {A = ℕ} 0 1 = cc in absurd (omega arith)
+some_step os s p None h = cc
 some_step os s p (Some i) h = (i, refl, h)
 
 all_known : (os : List (Option Item)) (s : Nothing) (p : ℕ) → fault_from knowns os s p ≡ None → (xs : List Item) × (os ≡ known xs)
@@ -139,7 +139,7 @@ module _ (ws : List ℕ) (e : Edition) (trailer : has_trailer ws ≡ true) (edit
 
 module _ (ws : List ℕ) where
   in_edition : ((i : ℕ) → get_or ws i 0 < 65536) → has_trailer ws ≡ true → known_edition ws ≡ true → sizes_fit ws ≡ true → (o : Option Edition) → edition_in ws ≡ o → list_no o ws ≡ None → Passes ws
-  in_edition fits t k s None e h = let u = unknown ws e in let z : ◌≡◌ {A = ℕ} 0 1 = cc in absurd (omega arith)
+  in_edition fits t k s None e h = let u = unknown ws e in cc
   in_edition fits t k s (Some e) q h = list_passes ws e t q s fits h
 
   pub sound : ((i : ℕ) → get_or ws i 0 < 65536) → (n h : ℕ) → verdict_of ws ≡ passed n h → Passes ws
@@ -196,4 +196,4 @@ judges ws fits (Ok p) h =
     let n : p.items ≡ items_in ws = cc in
     let c : p.cells ≡ cells_in ws = cc in
     (w, n, c)
-judges ws fits (Err q) h = λ w. let v = complete ws w in let z : ◌≡◌ {A = ℕ} 0 1 = cc in omega arith
+judges ws fits (Err q) h = λ w. let v = complete ws w in cc

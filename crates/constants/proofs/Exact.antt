@@ -31,7 +31,7 @@ module _ (c : Constant) where
       ∙ ap (λ (z : ℤ). Some (record { operand = c.operand; value = z })) (Values.double_again c.value l m)
 
   no_constant : {P : Type 0} → false ≡ true → P
-  no_constant h = let z : ◌≡◌ {A = ℕ} 0 1 = cc in absurd (omega arith)
+  no_constant h = cc
 
   kind_back : (k : Kind) → constant_kind k ≡ true → least (size_of k) ≤ℤ c.value → c.value ≤ℤ most (size_of k) → by_kind k c.operand (low_word c) (high_half (size_of k) c.value) ≡ Some c
   kind_back Of.Input h l m = no_constant h
@@ -62,8 +62,8 @@ module _ (o : Operand) (low high : ℕ) (low_fits : low < 65536) (high_fits : hi
   word_right c h = by (eqb high 0) (eqb low 32768) refl refl h
     where
       by : (a b : Bool) → eqb high 0 ≡ a → eqb low 32768 ≡ b → cond (a && not b) (Some (record { operand = o; value = word_value low })) None ≡ Some c → (c.operand ≡ o) × Valued Of.ConstantWord low high c.value
-      by false b u v d = let z : ◌≡◌ {A = ℕ} 0 1 = cc in absurd (omega arith)
-      by true true u v d = let z : ◌≡◌ {A = ℕ} 0 1 = cc in absurd (omega arith)
+      by false b u v d = cc
+      by true true u v d = cc
       by true false u v d =
           let same : made o (word_value low) ≡ c = cc in
           subst (λ (x : Constant). (x.operand ≡ o) × Valued Of.ConstantWord low high x.value) same
@@ -73,7 +73,7 @@ module _ (o : Operand) (low high : ℕ) (low_fits : low < 65536) (high_fits : hi
   double_right c h = by (eqb low 0 && eqb high 32768) refl h
     where
       by : (a : Bool) → (eqb low 0 && eqb high 32768) ≡ a → cond a None (Some (record { operand = o; value = double_value (65536 * high + low) })) ≡ Some c → (c.operand ≡ o) × Valued Of.ConstantDouble low high c.value
-      by true u d = let z : ◌≡◌ {A = ℕ} 0 1 = cc in absurd (omega arith)
+      by true u d = cc
       by false u d =
           let same : made o (double_value (65536 * high + low)) ≡ c = cc in
           let fits : 65536 * high + low < 4294967296 = omega arith in
@@ -83,16 +83,16 @@ module _ (o : Operand) (low high : ℕ) (low_fits : low < 65536) (high_fits : hi
           (refl, (refl, Values.double_least (65536 * high + low) fits lawful, Values.double_most (65536 * high + low) fits, omega (arith, bits), omega (arith, bits)))
 
   kind_right : (k : Kind) (c : Constant) → by_kind k o low high ≡ Some c → (c.operand ≡ o) × Valued k low high c.value
-  kind_right Of.Input c h = let z : ◌≡◌ {A = ℕ} 0 1 = cc in absurd (omega arith)
-  kind_right Of.Output c h = let z : ◌≡◌ {A = ℕ} 0 1 = cc in absurd (omega arith)
-  kind_right Of.Marker c h = let z : ◌≡◌ {A = ℕ} 0 1 = cc in absurd (omega arith)
-  kind_right Of.Step c h = let z : ◌≡◌ {A = ℕ} 0 1 = cc in absurd (omega arith)
-  kind_right Of.Constant c h = let z : ◌≡◌ {A = ℕ} 0 1 = cc in absurd (omega arith)
-  kind_right Of.InputWord c h = let z : ◌≡◌ {A = ℕ} 0 1 = cc in absurd (omega arith)
-  kind_right Of.OutputWord c h = let z : ◌≡◌ {A = ℕ} 0 1 = cc in absurd (omega arith)
-  kind_right Of.MarkerWord c h = let z : ◌≡◌ {A = ℕ} 0 1 = cc in absurd (omega arith)
+  kind_right Of.Input c h = cc
+  kind_right Of.Output c h = cc
+  kind_right Of.Marker c h = cc
+  kind_right Of.Step c h = cc
+  kind_right Of.Constant c h = cc
+  kind_right Of.InputWord c h = cc
+  kind_right Of.OutputWord c h = cc
+  kind_right Of.MarkerWord c h = cc
   kind_right Of.ConstantWord c h = word_right c h
-  kind_right Of.MarkerDouble c h = let z : ◌≡◌ {A = ℕ} 0 1 = cc in absurd (omega arith)
+  kind_right Of.MarkerDouble c h = cc
   kind_right Of.ConstantDouble c h = double_right c h
 
   right : (e : Edition) (c : Constant) → in_range e o ≡ true → by_kind o.kind o low high ≡ Some c → Right e (code_of o) low high c
@@ -103,9 +103,9 @@ module _ (o : Operand) (low high : ℕ) (low_fits : low < 65536) (high_fits : hi
       subst P (sym w.0) ((r, v.0, v.1, v.2), refl, v.3, v.4)
 
 pub decoded_exactly : (e : Edition) (code low high : ℕ) → low < 65536 → high < 65536 → (r : Option Constant) → r ≡ constant_decoded e code low high → Decodes e code low high r
-decoded_exactly e code low high lf hf None h = λ c l p q s. let b = constant_again c e l in let z : ◌≡◌ {A = ℕ} 0 1 = cc in omega arith
+decoded_exactly e code low high lf hf None h = λ c l p q s. let b = constant_again c e l in cc
 decoded_exactly e code low high lf hf (Some c) h = by (decoded e code) refl (sym h)
   where
     by : (d : Option Operand) → d ≡ decoded e code → by_operand d low high ≡ Some c → Right e code low high c
-    by None q d = let z : ◌≡◌ {A = ℕ} 0 1 = cc in absurd (omega arith)
+    by None q d = cc
     by (Some o) q d = let r = decoded_right e code (Some o) q in subst (λ n. Right e n low high c) r.1 (right o low high lf hf e c r.0 d)

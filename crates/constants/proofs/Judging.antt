@@ -29,12 +29,12 @@ module _ (e : Edition) where
       → ((o : Option Operand) → constant_fault o (constants_of e ws) (p + 1) ≡ None → Rises e o ws)
       → (o : Option Constant) → o ≡ constant_decoded e a b c → constant_fault last (o ∷ constants_of e ws) p ≡ None → Rises e last (a ∷ b ∷ c ∷ ws)
   unfolding constant_fault
-  met last a b c ws p f g ih None i m = let z : ◌≡◌ {A = ℕ} 0 1 = cc in absurd (omega arith)
+  met last a b c ws p f g ih None i m = cc
   met last a b c ws p f g ih (Some k) i m = by (constant_fits last k.operand) refl m
     where
       by : (t : Bool) → constant_fits last k.operand ≡ t → cond t (constant_fault (Some k.operand) (constants_of e ws) (p + 1)) (Some p) ≡ None → Rises e last (a ∷ b ∷ c ∷ ws)
       by true j n = one_more last k a b c ws (decoded_exactly e a b c f g (Some k) i) j (ih (Some k.operand) n)
-      by false j n = let z : ◌≡◌ {A = ℕ} 0 1 = cc in absurd (omega arith)
+      by false j n = cc
 
   -- no fault: they are lawful
   pub sound : (n : ℕ) (ws : List ℕ) (last : Option Operand) (p : ℕ) → length ws ≡ 3 * n → Fitting ws → constant_fault last (constants_of e ws) p ≡ None → Rises e last ws
@@ -56,4 +56,4 @@ module _ (e : Edition) where
 
   pub judged : (n : ℕ) (ws : List ℕ) → length ws ≡ 3 * n → Fitting ws → (r : Option ℕ) → r ≡ constant_fault None (constants_of e ws) 0 → Judged e ws r
   judged n ws q f None h = sound n ws None 0 q f (sym h)
-  judged n ws q f (Some p) h = λ (cs, w, l). let z = complete cs None 0 l in let same = ap (λ (us : List ℕ). constant_fault None (constants_of e us) 0) w in let y : ◌≡◌ {A = ℕ} 0 1 = cc in omega arith
+  judged n ws q f (Some p) h = λ (cs, w, l). let z = complete cs None 0 l in let same = ap (λ (us : List ℕ). constant_fault None (constants_of e us) 0) w in cc

@@ -49,7 +49,7 @@ alone_right e j i a l z h = by (eqb a 0) refl h
   where
     by : (b : Bool) → eqb a 0 ≡ b → cond b (Some j) None ≡ Some i → Right e (number_of j) a i
     by true t d = let same : j ≡ i = cc in subst (Right e (number_of j) a) same (l, refl, z ∙ sym (eqb-true a 0 t))
-    by false t d = let z : ◌≡◌ {A = ℕ} 0 1 = cc in absurd (omega arith)
+    by false t d = cc
 
 operand_right : (e : Edition) (make : AnyOperand → Item) (item : Option AnyOperand → Option Item) (n a : ℕ) (i : Item)
     → ((o : AnyOperand) → item (Some o) ≡ Some (make o)) → item None ≡ None
@@ -58,7 +58,7 @@ operand_right : (e : Edition) (make : AnyOperand → Item) (item : Option AnyOpe
 operand_right e make item n a i some none lawful num arg h = by (decoded e a) refl h
   where
     by : (d : Option AnyOperand) → d ≡ decoded e a → item d ≡ Some i → Right e n a i
-    by None q d = let z : ◌≡◌ {A = ℕ} 0 1 = cc in absurd (omega arith)
+    by None q d = cc
     by (Some o) q d =
         let r = decoded_right e a (Some o) q in
         let same : make o ≡ i = let s = some o in cc in
@@ -71,7 +71,7 @@ kind_right : (e : Edition) (a : ℕ) (i : Item) → kind_item (Blocks.block_numb
 kind_right e a i h = by (Blocks.block_numbered e a) refl h
   where
     by : (d : Option Block) → Blocks.block_numbered e a ≡ d → kind_item d ≡ Some i → Right e 41 a i
-    by None q d = let z : ◌≡◌ {A = ℕ} 0 1 = cc in absurd (omega arith)
+    by None q d = cc
     by (Some b) q d =
         let same : Kind b ≡ i = cc in
         let n : Blocks.number_of b ≡ a = block_back e a b q in
@@ -83,14 +83,14 @@ call_right e a i h = by (ltb a 1000) (eqb a 1000) refl refl h
     by : (b c : Bool) → ltb a 1000 ≡ b → eqb a 1000 ≡ c → cond b (Some (Call (Some a))) (cond c (Some (Call None)) None) ≡ Some i → Right e 40 a i
     by true c t u d = let same : Call (Some a) ≡ i = cc in let l = ltb-true a 1000 t in subst (Right e 40 a) same (omega arith, refl, refl)
     by false true t u d = let same : Call None ≡ i = cc in subst (Right e 40 a) same (tt, refl, sym (eqb-true a 1000 u))
-    by false false t u d = let z : ◌≡◌ {A = ℕ} 0 1 = cc in absurd (omega arith)
+    by false false t u d = cc
 
 mark_right : (e : Edition) (a : ℕ) (i : Item) → mark_decoded a ≡ Some i → Right e 50 a i
 mark_right e a i h = by (ltb a 1000) refl h
   where
     by : (b : Bool) → ltb a 1000 ≡ b → cond b (Some (Mark a)) None ≡ Some i → Right e 50 a i
     by true t d = let same : Mark a ≡ i = cc in let l = ltb-true a 1000 t in subst (Right e 50 a) same (omega arith, refl, refl)
-    by false t d = let z : ◌≡◌ {A = ℕ} 0 1 = cc in absurd (omega arith)
+    by false t d = cc
 
 word_right : (e : Edition) (m : Mnemonic) (a : ℕ) (i : Item) → word_decoded e m a ≡ Some i → Right e (Mnemonics.number_of m) a i
 word_right e Word.Nop a i h = alone_right e Nop i a tt refl h
@@ -113,10 +113,10 @@ nameless_right e n a i h = by (eqb n 8) (eqb n 41) (eqb n 42) refl refl refl h
     by true c d t u v s = subst (λ m. Right e m a i) (sym (eqb-true n 8 t)) (operand_right e Operand operand_item 8 a i (λ o. refl) refl (λ o l. l) (λ o. refl) (λ o. refl) s)
     by false true d t u v s = subst (λ m. Right e m a i) (sym (eqb-true n 41 u)) (kind_right e a i s)
     by false false true t u v s = subst (λ m. Right e m a i) (sym (eqb-true n 42 v)) (operand_right e Pin pin_item 42 a i (λ o. refl) refl (λ o l. l) (λ o. refl) (λ o. refl) s)
-    by false false false t u v s = let z : ◌≡◌ {A = ℕ} 0 1 = cc in absurd (omega arith)
+    by false false false t u v s = cc
 
 pub decoded_exactly : (e : Edition) (n a : ℕ) (r : Option Item) → r ≡ item_decoded e n a → Decodes e n a r
-decoded_exactly e n a None h = λ i l p q. let s = again e i l in let z : ◌≡◌ {A = ℕ} 0 1 = cc in omega arith
+decoded_exactly e n a None h = λ i l p q. let s = again e i l in cc
 decoded_exactly e n a (Some i) h = by (mnemonic_numbered n) refl (sym h)
   where
     by : (m : Option Mnemonic) → mnemonic_numbered n ≡ m → by_mnemonic e n a m ≡ Some i → Right e n a i

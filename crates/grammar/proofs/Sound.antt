@@ -1,4 +1,4 @@
-use Rattle.std.proofs.Common.{◌≡◌, ℕ, zero, suc, Bool, true, false, ◌⊎◌, List, [], ◌∷◌, Some, None, Option, sym, subst, inl, inr, arith}
+use Rattle.std.proofs.Common.{◌≡◌, ℕ, zero, suc, Bool, true, false, ◌⊎◌, List, [], ◌∷◌, Some, None, Option, sym, subst, inl, inr}
 use Rattle.catalogue.specs.declared.Block.{Block}
 use Rattle.item.specs.declared.mnemonic.Comparison.{Comparison}
 use Rattle.item.specs.declared.mnemonic.Operator.{Operator as Sign}
@@ -270,7 +270,7 @@ back (Pins n) i xs h = back_pin n i xs h
 back Done i xs h = absurd h
 
 pub none_some : {A : Type 0} (x : A) → None ≡ Some x → ⊥
-none_some x e = let z : ◌≡◌ {A = ℕ} 0 1 = cc in omega arith
+none_some x e = cc
 
 pub some_same : {A : Type 0} (x y : A) → Some x ≡ Some y → x ≡ y
 some_same x y e = cc

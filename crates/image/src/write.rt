@@ -1,9 +1,8 @@
 // Writing an image: items, constants and trailer, into a lent buffer.
-ghost use Rattle.std.specs.Prelude.{◌≡◌, ℕ, ◌+◌, ◌≤◌, List, length};
+ghost use Rattle.std.specs.Prelude.{◌≡◌, ℕ, ◌+◌, ◌≤◌, List as ListOf, length};
 ghost use Rattle.std.specs.List.{flat_map};
 ghost use Rattle.image.specs.Images.{item_pair, constant_triple, cells_sum, image_length, most_items, most_constants, words_of};
-ghost use Rattle.image.specs.Writes.{laid, first_laid, write_answer, write_left};
-ghost use Rattle.operand.specs.declared.edition.Edition.{Edition as AnyEdition};
+ghost use Rattle.image.specs.Writes.{counts_of, laid, first_laid, write_answer, write_left};
 
 use crate::constant::Constant;
 use item::item::Item;
@@ -44,7 +43,7 @@ fn put(buffer: &mut [u16], at: usize, words: &[u16]) -> usize
 
 // What an image has words for.
 trait Encoded: Copy {
-    ghost words: { Self → List ℕ };
+    ghost words: { Self → ListOf ℕ };
 
     // Puts its words into the buffer from a place on; returns the place after them.
     fn put(self, buffer: &mut [u16], at: usize) -> usize
@@ -82,51 +81,65 @@ fn put_all<E: Encoded>(buffer: &mut [u16], from: usize, things: &[E]) -> usize
     at
 }
 
-fn count_cells(items: &[Item]) -> u16
-    requires { length items.now ≤ most_items }
-    ensures { result ≡ cells_sum items.now }
-{
-    items.iter().map(|item| item.cells()).sum()
-}
-
-// How many words the image has, whatever the edition.
-fn words_needed(items: &[Item], constants: &[Constant]) -> usize
-    requires { (length items.now ≤ most_items) × (length constants.now ≤ most_constants) }
-    ensures count { result ≡ image_length items.now constants.now }
-    ensures words { (e : AnyEdition) → result ≡ length (words_of e items.now constants.now) }
-{
-    2 * items.len() + 3 * constants.len() + 6
-}
-
-// Puts the whole image first into the buffer.
-fn put_image(
-    buffer: &mut [u16],
+// A list of no more items and constants than an image may have.
+#[derive(Clone, Copy)]
+struct List<'a> {
     edition: Edition,
-    items: &[Item],
-    constants: &[Constant],
-    counts: Written,
-)
-    requires long { (counts.length ≡ image_length items.now constants.now) × (counts.length ≤ 65535) }
-    requires room { counts.length ≤ length buffer.old }
-    requires items { counts.items ≡ length items.now }
-    requires constants { counts.constants ≡ length constants.now }
-    requires cells { counts.cells ≡ cells_sum items.now }
-    ensures { buffer.new ≡ first_laid buffer.old (words_of edition items.now constants.now) }
-{
-    let next = put_all(buffer, 0, items);
-    let next = put_all(buffer, next, constants);
-    put(
-        buffer,
-        next,
-        &[
-            counts.length as u16,
-            counts.items,
-            counts.constants,
-            counts.cells,
-            edition.number(),
-            IDENTIFIER,
-        ],
-    );
+    items: &'a [Item],
+    constants: &'a [Constant],
+    ghost items_fit: { length items.now ≤ most_items },
+    ghost constants_fit: { length constants.now ≤ most_constants },
+}
+
+impl<'a> List<'a> {
+    fn cells(self) -> u16
+        ensures { result ≡ cells_sum self.entry.items.now }
+    {
+        self.items.iter().map(|item| item.cells()).sum()
+    }
+
+    // How many words the image has.
+    fn length(self) -> usize
+        ensures count { result ≡ image_length self.entry.items.now self.entry.constants.now }
+        ensures words { result ≡ length (words_of self.entry.edition self.entry.items.now self.entry.constants.now) }
+    {
+        2 * self.items.len() + 3 * self.constants.len() + 6
+    }
+
+    fn counts(self) -> Written
+        ensures { result ≡ counts_of self.entry.edition self.entry.items.now self.entry.constants.now }
+    {
+        Written {
+            length: self.length(),
+            items: self.items.len() as u16,
+            constants: self.constants.len() as u16,
+            cells: self.cells(),
+        }
+    }
+
+    // Puts the whole image first into the buffer.
+    fn put(self, buffer: &mut [u16]) -> Written
+        requires { image_length self.items.now self.constants.now ≤ length buffer.old }
+        ensures counts { result ≡ counts_of self.entry.edition self.entry.items.now self.entry.constants.now }
+        ensures left { buffer.new ≡ first_laid buffer.old (words_of self.entry.edition self.entry.items.now self.entry.constants.now) }
+    {
+        let counts = self.counts();
+        let next = put_all(buffer, 0, self.items);
+        let next = put_all(buffer, next, self.constants);
+        put(
+            buffer,
+            next,
+            &[
+                counts.length as u16,
+                counts.items,
+                counts.constants,
+                counts.cells,
+                self.edition.number(),
+                IDENTIFIER,
+            ],
+        );
+        counts
+    }
 }
 
 // Writes the image of a list first into the buffer and leaves the rest of it; a refusal leaves it all.
@@ -142,16 +155,13 @@ pub fn write(
     if items.len() > MOST_ITEMS || constants.len() > MOST_CONSTANTS {
         return Err(WriteRefusal::TooMany);
     }
-    let needed = words_needed(items, constants);
-    if needed > buffer.len() {
+    let list = List {
+        edition,
+        items,
+        constants,
+    };
+    if list.length() > buffer.len() {
         return Err(WriteRefusal::TooLong);
     }
-    let counts = Written {
-        length: needed,
-        items: items.len() as u16,
-        constants: constants.len() as u16,
-        cells: count_cells(items),
-    };
-    put_image(buffer, edition, items, constants, counts);
-    Ok(counts)
+    Ok(list.put(buffer))
 }

@@ -22,7 +22,7 @@ module _ (test : ℕ → Bool) (end : ℕ) where
   Within n p r = First test p (p + n) r
 
   never : (k p : ℕ) → test p ≡ false → k ≡ p → test k ≡ true → ⊥
-  never k p f e t = let z : ◌≡◌ {A = Bool} false true = sym f ∙ (ap test (sym e) ∙ t) in let y : ◌≡◌ {A = ℕ} 0 1 = cc in omega arith
+  never k p f e t = let z : ◌≡◌ {A = Bool} false true = sym f ∙ (ap test (sym e) ∙ t) in cc
 
   -- nothing at p, and what comes behind it
   later : (n p : ℕ) → test p ≡ false → (r : Option ℕ) → Within n (p + 1) r → Within (suc n) p r
@@ -40,7 +40,7 @@ module _ (test : ℕ → Bool) (end : ℕ) where
 
   past : (p : ℕ) → end ≤ p → (r : Option ℕ) → r ≡ None → First test p end r
   past p h None q = λ k i j t. omega arith
-  past p h (Some q) e = let z : ◌≡◌ {A = ℕ} 0 1 = cc in absurd (omega arith)
+  past p h (Some q) e = cc
 
   pub exact : (p : ℕ) → First test p end (first_place test p end)
   exact p = by (leb end p) refl

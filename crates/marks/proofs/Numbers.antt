@@ -1,5 +1,5 @@
 -- An item is known by its number.
-use Rattle.std.proofs.Common.{◌≡◌, ℕ, ◌/◌, true, false, List, length, Some, None, Option, sym, refl, ap, ◌∙◌, arith, eq-eqb}
+use Rattle.std.proofs.Common.{◌≡◌, ℕ, ◌/◌, true, false, List, length, Some, None, Option, sym, refl, ap, ◌∙◌, eq-eqb}
 use Rattle.operand.specs.declared.edition.Edition.{Edition}
 use Rattle.item.specs.declared.item.Item.{Item}
 use Rattle.item.specs.declared.item.Item.TheVariants.{Nop, Start, Open, Close, Operand, Operator, Compare, Assign, EndIf, Call, Kind, Pin, Direct, Mark, End}
@@ -58,11 +58,11 @@ no_cells End h = refl
 
 -- the test of a mark decides whether it is one
 pub is_marked : (m : ℕ) (o : Option Item) → is_mark m o ≡ true → o ≡ Some (Mark m)
-is_marked m None h = let z : ◌≡◌ {A = ℕ} 0 1 = cc in absurd (omega arith)
+is_marked m None h = cc
 is_marked m (Some i) h = by i h
   where
     apart : {P : Type 0} → false ≡ true → P
-    apart h = let z : ◌≡◌ {A = ℕ} 0 1 = cc in absurd (omega arith)
+    apart h = cc
 
     by : (i : Item) → marks m i ≡ true → Some i ≡ Some (Mark m)
     by Nop h = apart h

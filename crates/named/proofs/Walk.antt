@@ -60,18 +60,18 @@ module _ (m : Meaning) (layer : ℕ) (e : Edition) (ws : List ℕ) where
   fits_so place (Some n) h = by (m n.point) h
     where
       by : (x : Point) → Ok tt ≡ fit_at layer place n.point x → Fitted x
-      by absent q = let z : ◌≡◌ {A = ℕ} 0 1 = cc in absurd (omega arith)
+      by absent q = cc
       by (wired i o) q = tt
 
   unfit_so : (place : ℕ) (o : Option NamedPoint) (u : Unfitted) → point_at e ws place ≡ o → Err u ≡ fit_named m layer place o → (u.place ≡ place) × UnfittedAt m layer e ws place u
-  unfit_so place None u h q = let z : ◌≡◌ {A = ℕ} 0 1 = cc in absurd (omega arith)
+  unfit_so place None u h q = cc
   unfit_so place (Some n) u h q = by (m n.point) refl q
     where
       by : (x : Point) → m n.point ≡ x → Err u ≡ fit_at layer place n.point x → (u.place ≡ place) × UnfittedAt m layer e ws place u
       by absent a r =
           let same : u ≡ record { place = place; fault = fault_at layer n.point } = cc in
           (ap (λ (v : Unfitted). v.place) same, record { names = n; here = h; unfitted = a; told = ap told_of same })
-      by (wired i o) a r = let z : ◌≡◌ {A = ℕ} 0 1 = cc in absurd (omega arith)
+      by (wired i o) a r = cc
 
   -- a walk over the items, at place p: one that fits, and the first that does not
   module _ (p place : ℕ) (xs ys : List (Option Item)) (x : Option Item) (walk : xs ≡ items_from e ws p) (next : xs ≡ x ∷ ys) (here : place ≡ p) (before : AllFit m e ws p) where

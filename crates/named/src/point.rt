@@ -1,9 +1,10 @@
 // The point that an operand or an item names.
-ghost use Rattle.std.specs.Prelude.{◌≡◌, ◌+◌, ◌≤◌, true, cond, nat_lt, None as None-of};
-ghost use Rattle.named.specs.Naming.{at_side, group_point, word_point, operand_point, edition_point, item_point, known_point};
+ghost use Rattle.std.specs.Prelude.{◌≡◌, ◌+◌, ◌/◌, ◌<◌, ◌≤◌, true, cond, length, nat_lt, None as None-of};
+ghost use Rattle.named.specs.Naming.{at_side, group_point, word_point, operand_point, edition_point, item_point, known_point, point_at};
 ghost use Rattle.operand.specs.Codes.{in_range};
 ghost use Rattle.operand.specs.declared.edition.Edition.{Edition as AnyEdition};
 
+use decode::items::Items;
 use item::item::Item;
 use operand::edition::Edition;
 use operand::kind::Kind;
@@ -27,14 +28,10 @@ fn point_from(side: Side, first: u16, number: u16, limit: u16) -> Option<NamedPo
     requires { first + limit ≤ 65535 }
     ensures { result ≡ cond (nat_lt number limit) (at_side side (first + number)) None-of }
 {
-    if number < limit {
-        Some(NamedPoint {
-            side,
-            point: first + number,
-        })
-    } else {
-        None
-    }
+    (number < limit).then(|| NamedPoint {
+        side,
+        point: first + number,
+    })
 }
 
 // Points 0 to 63 are the groups of E and A.
@@ -85,4 +82,12 @@ pub fn known_point(item: Option<Item>) -> Option<NamedPoint>
     ensures { result ≡ known_point item }
 {
     item_point(item?)
+}
+
+// The point that the item at a place names.
+pub fn point_at(items: Items, place: usize) -> Option<NamedPoint>
+    requires { place < length items.words.now / 2 }
+    ensures { result ≡ point_at items.entry.edition items.entry.words.now place }
+{
+    known_point(items.get(place))
 }

@@ -1,5 +1,5 @@
 -- Each rule finds no fault in a list exactly when its question gets a yes.
-use Rattle.std.proofs.Common.{◌≡◌, ℕ, List, Some, refl, arith}
+use Rattle.std.proofs.Common.{◌≡◌, List, Some, refl, arith}
 use Rattle.item.specs.declared.item.Item.{Item}
 use Rattle.rule.specs.Automata.{reached}
 use Rattle.grammar.specs.declared.automaton.Grammar.TheVariants.{Between, Done}
@@ -37,7 +37,7 @@ module _ (xs : List Item) (l : IsList xs) where
   types_agree : Exactly types xs (Everywhere Typed xs)
   types_agree = (
     (λ h. let (u, r) = clear_through types xs h in Types.sound xs Between Done Idle u runs refl r refl),
-    (λ w. through_clear types (λ s. refl) xs Idle 0 (Types.complete xs Between Done Idle runs refl w (λ j. let z : ◌≡◌ {A = ℕ} 0 1 = cc in absurd (omega arith)))),
+    (λ w. through_clear types (λ s. refl) xs Idle 0 (Types.complete xs Between Done Idle runs refl w (λ j. cc))),
   )
 
   targets_agree : Exactly targets xs (Each Written xs)

@@ -81,11 +81,11 @@ kind_due b = grind (arith, nat_tests)
 
 let_through : (t : Bool) (w v : Pins) → cond t (Some w) None ≡ Some v → (t ≡ true) × (v ≡ w)
 let_through true w v h = let e : w ≡ v = cc in (refl, sym e)
-let_through false w v h = let z : ◌≡◌ {A = ℕ} 0 1 = cc in absurd (omega arith)
+let_through false w v h = cc
 
 -- what no state lets in
 stopped : {P A : Type 0} (a : A) → ◌≡◌ {A = Option A} None (Some a) → P
-stopped a h = let z : ◌≡◌ {A = ℕ} 0 1 = cc in absurd (omega arith)
+stopped a h = cc
 
 operand_taken : (b : Block) (n : ℕ) (v : Pins) (o : Place) → pin_step (At b n) (Pin o) ≡ Some v → Taken b n v (Pin o)
 operand_taken b n v o f =
@@ -157,11 +157,11 @@ idle_next Phase.Named h x v e f i = named h x v e f
     named h (Direct w) v e f = stopped h e
     named h (Mark k) v e f = stopped h e
     named h End v e f = stopped h e
-idle_next (Phase.Pins m) h x v e f i = let z : ◌≡◌ {A = ℕ} 0 1 = cc in absurd (omega arith)
+idle_next (Phase.Pins m) h x v e f i = cc
 idle_next Phase.Done h x v e f i = stopped h e
 
 not_due : {P : Type 0} → false ≡ true → P
-not_due h = let z : ◌≡◌ {A = ℕ} 0 1 = cc in absurd (omega arith)
+not_due h = cc
 
 next_phase : (g h : Grammar) (x : Item) (s v : Pins) → grammar_step g x ≡ Some h → pin_step s x ≡ Some v → in_phase g s ≡ true → in_phase h v ≡ true
 next_phase g h x Idle v e f i = idle_next g h x v e f i

@@ -24,7 +24,7 @@ module _ (e : Edition) (ws : List ℕ) where
 
   none_left : (p : ℕ) → p < N → items_from e ws p ≡ known [] → ⊥
   unfolding known
-  none_left p l h = let more = items_more e ws p l in let y : ◌≡◌ {A = ℕ} 0 1 = cc in omega arith
+  none_left p l h = let more = items_more e ws p l in cc
 
   -- a mark at a later place is among the items from here on
   marked_ahead : (k p m : ℕ) (xs : List Item) → items_from e ws p ≡ known xs → p + k < N → Marked e ws m (p + k) → Ahead m xs
@@ -114,7 +114,7 @@ module _ (e : Edition) (ws : List ℕ) where
 
   no_mark : (r : Option ℕ) → missing r ≡ true → r ≡ None
   no_mark None h = refl
-  no_mark (Some q) h = let z : ◌≡◌ {A = ℕ} 0 1 = cc in absurd (omega arith)
+  no_mark (Some q) h = cc
 
   stands_direct : (o : Option Item) (m : ℕ) → direct_in o ≡ Some m → o ≡ Some (Direct m)
   stands_direct o m h = grind (arith, nat_tests)
@@ -124,7 +124,7 @@ module _ (e : Edition) (ws : List ℕ) where
     where
       by : (b : Bool) → ltb p N ≡ b → cond b (direct_in (item_at e ws p)) None ≡ Some m → (p < N) × (item_at e ws p ≡ Some (Direct m))
       by true t d = (grind (arith, nat_tests), stands_direct (item_at e ws p) m d)
-      by false t d = let z : ◌≡◌ {A = ℕ} 0 1 = cc in absurd (omega arith)
+      by false t d = cc
 
   two_more : (p m : ℕ) (xs : List Item) → items_from e ws (p + 1) ≡ known xs → p + 1 + length xs ≡ N → p + 2 < N → item_at e ws (p + 2) ≡ Some (Direct m) → (x : Item) × (ys : List Item) × (xs ≡ x ∷ Direct m ∷ ys)
   two_more p m [] h n l d = absurd (omega arith)
@@ -132,7 +132,7 @@ module _ (e : Edition) (ws : List ℕ) where
   two_more p m (x ∷ y ∷ ys) h n l d = let is = second_at p m x y ys h n in let same : y ≡ Direct m = cc in (x, ys, ap (λ (i : Item). x ∷ i ∷ ys) same)
 
   not_led : (p : ℕ) (xs : List Item) → items_from e ws (p + 1) ≡ known xs → p + 1 + length xs ≡ N → SecondAhead xs → (d : Option ℕ) → direct_at e ws (p + 2) ≡ d → astray_to e ws p d ≡ true → ⊥
-  not_led p xs h n led None q t = let z : ◌≡◌ {A = ℕ} 0 1 = cc in omega arith
+  not_led p xs h n led None q t = cc
   not_led p xs h n led (Some m) q t =
       let (l, d) = directly (p + 2) m q in
       let (x, ys, s) = two_more p m xs h n l d in
@@ -142,27 +142,27 @@ module _ (e : Edition) (ws : List ℕ) where
 
   not_astray_as : (x : Item) (p : ℕ) (xs : List Item) → items_from e ws (p + 1) ≡ known xs → p + 1 + length xs ≡ N → Led x xs → astray_as p (Some x) ≡ true → ⊥
   unfolding astray_as
-  not_astray_as Nop p xs h n led t = let z : ◌≡◌ {A = ℕ} 0 1 = cc in omega arith
-  not_astray_as (Start u) p xs h n led t = let z : ◌≡◌ {A = ℕ} 0 1 = cc in omega arith
-  not_astray_as (Open u) p xs h n led t = let z : ◌≡◌ {A = ℕ} 0 1 = cc in omega arith
-  not_astray_as Close p xs h n led t = let z : ◌≡◌ {A = ℕ} 0 1 = cc in omega arith
-  not_astray_as (Operand o) p xs h n led t = let z : ◌≡◌ {A = ℕ} 0 1 = cc in omega arith
-  not_astray_as (Operator o) p xs h n led t = let z : ◌≡◌ {A = ℕ} 0 1 = cc in omega arith
-  not_astray_as (Compare c) p xs h n led t = let z : ◌≡◌ {A = ℕ} 0 1 = cc in omega arith
-  not_astray_as (Assign f o) p xs h n led t = let z : ◌≡◌ {A = ℕ} 0 1 = cc in omega arith
-  not_astray_as EndIf p xs h n led t = let z : ◌≡◌ {A = ℕ} 0 1 = cc in omega arith
-  not_astray_as (Call j) p xs h n led t = let z : ◌≡◌ {A = ℕ} 0 1 = cc in omega arith
-  not_astray_as (Kind Esv) p xs h n led t = let z : ◌≡◌ {A = ℕ} 0 1 = cc in omega arith
-  not_astray_as (Kind Moa) p xs h n led t = let z : ◌≡◌ {A = ℕ} 0 1 = cc in omega arith
-  not_astray_as (Kind RisingEdge) p xs h n led t = let z : ◌≡◌ {A = ℕ} 0 1 = cc in omega arith
-  not_astray_as (Kind Ctud) p xs h n led t = let z : ◌≡◌ {A = ℕ} 0 1 = cc in omega arith
-  not_astray_as (Kind Muldi) p xs h n led t = let z : ◌≡◌ {A = ℕ} 0 1 = cc in omega arith
-  not_astray_as (Kind Zuwd) p xs h n led t = let z : ◌≡◌ {A = ℕ} 0 1 = cc in omega arith
+  not_astray_as Nop p xs h n led t = cc
+  not_astray_as (Start u) p xs h n led t = cc
+  not_astray_as (Open u) p xs h n led t = cc
+  not_astray_as Close p xs h n led t = cc
+  not_astray_as (Operand o) p xs h n led t = cc
+  not_astray_as (Operator o) p xs h n led t = cc
+  not_astray_as (Compare c) p xs h n led t = cc
+  not_astray_as (Assign f o) p xs h n led t = cc
+  not_astray_as EndIf p xs h n led t = cc
+  not_astray_as (Call j) p xs h n led t = cc
+  not_astray_as (Kind Esv) p xs h n led t = cc
+  not_astray_as (Kind Moa) p xs h n led t = cc
+  not_astray_as (Kind RisingEdge) p xs h n led t = cc
+  not_astray_as (Kind Ctud) p xs h n led t = cc
+  not_astray_as (Kind Muldi) p xs h n led t = cc
+  not_astray_as (Kind Zuwd) p xs h n led t = cc
   not_astray_as (Kind Spbm) p xs h n led t = not_led p xs h n led (direct_at e ws (p + 2)) refl t
-  not_astray_as (Pin o) p xs h n led t = let z : ◌≡◌ {A = ℕ} 0 1 = cc in omega arith
-  not_astray_as (Direct w) p xs h n led t = let z : ◌≡◌ {A = ℕ} 0 1 = cc in omega arith
-  not_astray_as (Mark m) p xs h n led t = let z : ◌≡◌ {A = ℕ} 0 1 = cc in omega arith
-  not_astray_as End p xs h n led t = let z : ◌≡◌ {A = ℕ} 0 1 = cc in omega arith
+  not_astray_as (Pin o) p xs h n led t = cc
+  not_astray_as (Direct w) p xs h n led t = cc
+  not_astray_as (Mark m) p xs h n led t = cc
+  not_astray_as End p xs h n led t = cc
 
   -- of so many places from p on none goes astray
   none_astray : (k p : ℕ) (xs : List Item) → items_from e ws p ≡ known xs → p + length xs ≡ N → Everywhere Led xs → p + k < N → astray e ws (p + k) ≡ true → ⊥

@@ -3,33 +3,25 @@ use Rattle.std.proofs.Common.{◌≡◌, ℕ, zero, suc, ◌*◌, List, [], ◌�
 use Rattle.operand.specs.declared.edition.Edition.{Edition}
 use Rattle.item.specs.declared.item.Item.{Item}
 use Rattle.image.specs.Images.{item_words}
-use Rattle.decode.specs.Decoded.{Lawful, item_decoded}
+use Rattle.decode.specs.Decoded.{Lawful}
 use Rattle.decode.proofs.Exact.{again, decoded_exactly}
 use Rattle.rule.specs.Automata.{known}
 use Rattle.decode.specs.Words.{items_of}
 use Rattle.questions.specs.Everywhere.{Each}
 use Rattle.questions.specs.Known.{Known}
-
-head_of : {A : Type 0} (a b : A) (xs ys : List A) → (a ∷ xs) ≡ (b ∷ ys) → a ≡ b
-head_of a b xs ys h = cc
-
-tail_of : {A : Type 0} (a b : A) (xs ys : List A) → (a ∷ xs) ≡ (b ∷ ys) → xs ≡ ys
-tail_of a b xs ys h = cc
-
-apart : {P A : Type 0} (a : A) (xs : List A) → [] ≡ (a ∷ xs) → P
-apart a xs h = let z : ◌≡◌ {A = ℕ} 0 1 = cc in absurd (omega arith)
+use Rattle.questions.proofs.Places.{cons_head, cons_tail}
 
 module _ (e : Edition) where
   pub known_words : (n : ℕ) (ws : List ℕ) (xs : List Item) → length ws ≡ 2 * n → items_of e ws ≡ known xs → Known e ws xs
   unfolding items_of known item_words
   known_words n [] [] l h = (refl, tt)
-  known_words n [] (x ∷ xs) l h = apart (Some x) (known xs) h
+  known_words n [] (x ∷ xs) l h = cc
   known_words n (a ∷ []) xs l h = absurd (omega arith)
-  known_words n (a ∷ b ∷ ws) [] l h = apart (item_decoded e a b) (items_of e ws) (sym h)
+  known_words n (a ∷ b ∷ ws) [] l h = cc
   known_words zero (a ∷ b ∷ ws) (x ∷ xs) l h = absurd (omega arith)
   known_words (suc n) (a ∷ b ∷ ws) (x ∷ xs) l h =
-      let (w, c) = known_words n ws xs (omega arith) (tail_of (item_decoded e a b) (Some x) (items_of e ws) (known xs) h) in
-      let (d, p, q) = decoded_exactly e a b (Some x) (sym (head_of (item_decoded e a b) (Some x) (items_of e ws) (known xs) h)) in
+      let (w, c) = known_words n ws xs (omega arith) (cons_tail h) in
+      let (d, p, q) = decoded_exactly e a b (Some x) (sym (cons_head h)) in
       ((λ i. p i ∷ (q i ∷ w i)), (d, c))
 
   pub words_known : (xs : List Item) → Each (Lawful e) xs → items_of e (item_words xs) ≡ known xs

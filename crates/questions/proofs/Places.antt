@@ -26,6 +26,6 @@ module _ (e : Edition) (ws : List ℕ) where
   pub how_many : (k p : ℕ) (xs : List Item) → p + k ≡ length ws / 2 → items_from e ws p ≡ known xs → length xs ≡ k
   unfolding known
   how_many zero p [] l h = refl
-  how_many zero p (x ∷ xs) l h = let none = items_all e ws p (omega arith) in let y : ◌≡◌ {A = ℕ} 0 1 = cc in absurd (omega arith)
-  how_many (suc k) p [] l h = let more = items_more e ws p (omega arith) in let y : ◌≡◌ {A = ℕ} 0 1 = cc in absurd (omega arith)
+  how_many zero p (x ∷ xs) l h = let none = items_all e ws p (omega arith) in cc
+  how_many (suc k) p [] l h = let more = items_more e ws p (omega arith) in cc
   how_many (suc k) p (x ∷ xs) l h = let r = how_many k (p + 1) xs (omega arith) (behind_place p x xs (omega arith) h) in omega arith

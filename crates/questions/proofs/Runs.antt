@@ -1,5 +1,5 @@
 -- A rule finds no fault exactly when it comes through all items to a state where the list may end.
-use Rattle.std.proofs.Common.{◌≡◌, ℕ, ◌+◌, true, List, [], ◌∷◌, Some, None, Option, refl, ap, ◌∙◌, arith}
+use Rattle.std.proofs.Common.{◌≡◌, ℕ, ◌+◌, true, List, [], ◌∷◌, Some, None, Option, refl, ap, ◌∙◌}
 use Rattle.std.proofs.lemmas.Bool.{cond-true}
 use Rattle.item.specs.declared.item.Item.{Item}
 use Rattle.rule.specs.Automata.{Automaton, fault_on, fault_from, first_fault, known, reached, then}
@@ -12,7 +12,7 @@ module _ {S : Type 0} (a : Automaton S) where
   Through xs s = (t : S) × (reached a xs s ≡ Some t)
 
   step_on : (xs : List Item) (t : S) (o : Option S) → then (reached a xs) o ≡ Some t → (u : S) × (o ≡ Some u) × (reached a xs u ≡ Some t)
-  step_on xs t None h = let z : ◌≡◌ {A = ℕ} 0 1 = cc in absurd (omega arith)
+  step_on xs t None h = cc
   step_on xs t (Some u) h = (u, refl, h)
 
   -- the first item leads on
@@ -33,7 +33,7 @@ module _ {S : Type 0} (a : Automaton S) where
     where
       by : (r : Option ℕ) → r ≡ None → Told a xs a.start 0 r → Through xs a.start
       by None e (t, m, n) = (t, m)
-      by (Some q) e w = let z : ◌≡◌ {A = ℕ} 0 1 = cc in absurd (omega arith)
+      by (Some q) e w = cc
 
   pub reached_clear : (xs : List Item) (s t : S) (p : ℕ) → reached a xs s ≡ Some t → a.ends t ≡ true → fault_from a (known xs) s p ≡ None
   unfolding fault_from known reached

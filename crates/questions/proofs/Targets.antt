@@ -1,5 +1,5 @@
 -- Question 9: the rule of targets lets items through exactly when each assigned operand may be written.
-use Rattle.std.proofs.Common.{◌≡◌, ℕ, Bool, true, false, cond, List, [], ◌∷◌, Some, None, sym, refl, ap, ◌∙◌, arith}
+use Rattle.std.proofs.Common.{◌≡◌, Bool, true, false, cond, List, [], ◌∷◌, Some, None, sym, refl, ap, ◌∙◌, arith}
 use Rattle.std.proofs.lemmas.Bool.Decides.{nat_tests}
 use Rattle.std.proofs.lemmas.Bool.{cond-true}
 use Rattle.operand.specs.declared.operand.Operand.{Operand as Place}
@@ -20,7 +20,7 @@ taken s v f o h = by (takes f o) h
   where
     by : (b : Bool) → cond b (Some s) None ≡ Some v → b ≡ true
     by true h = refl
-    by false h = let z : ◌≡◌ {A = ℕ} 0 1 = cc in absurd (omega arith)
+    by false h = cc
 
 writable : (f : Form) (o : Place) (m : Bool) → may_write o ≡ m → takes f o ≡ true → m ≡ true
 writable Form.Plain o m q h = sym q ∙ h

@@ -180,7 +180,7 @@ module _ (g h : Grammar) (x : Item) (e : grammar_step g x ≡ Some h) (s v : Typ
 
 sentence_fits : (xs : List Item) (g t : Grammar) (s u : Types) → reached grammar xs g ≡ Some t → done t ≡ true → reached types xs s ≡ Some u → in_phase g s ≡ true → idle s ≡ false → Fitting s (sentence xs)
 unfolding Fits sentence reached
-sentence_fits [] g t s u q d r i j = let same : g ≡ t = cc in let m = over g s (ap done same ∙ d) i in let z : ◌≡◌ {A = Bool} false true = sym j ∙ m in let y : ◌≡◌ {A = ℕ} 0 1 = cc in absurd (omega arith)
+sentence_fits [] g t s u q d r i j = let same : g ≡ t = cc in let m = over g s (ap done same ∙ d) i in let z : ◌≡◌ {A = Bool} false true = sym j ∙ m in cc
 sentence_fits (x ∷ xs) g t s u q d r i j =
     let (h, e, k) = first_step grammar x xs g t q in
     let (v, f, l) = first_step types x xs s u r in
@@ -252,21 +252,21 @@ started t xs (z, (h, k)) = (pended t, turned t, λ b. (z, agreed t z h, subst (�
 
 -- the state behind an item that opens
 opened_to : (x : Item) (xs : List Item) (s : Types) → opens x ≡ true → Typed x xs → (v : Types) × (type_step s x ≡ Some v) × Cont v xs
-opened_to Nop xs s o w = let y : ◌≡◌ {A = ℕ} 0 1 = cc in absurd (omega arith)
+opened_to Nop xs s o w = cc
 opened_to (Start t) xs s o w = started t xs w
-opened_to (Open t) xs s o w = let y : ◌≡◌ {A = ℕ} 0 1 = cc in absurd (omega arith)
-opened_to Close xs s o w = let y : ◌≡◌ {A = ℕ} 0 1 = cc in absurd (omega arith)
-opened_to (Operand a) xs s o w = let y : ◌≡◌ {A = ℕ} 0 1 = cc in absurd (omega arith)
-opened_to (Operator a) xs s o w = let y : ◌≡◌ {A = ℕ} 0 1 = cc in absurd (omega arith)
-opened_to (Compare c) xs s o w = let y : ◌≡◌ {A = ℕ} 0 1 = cc in absurd (omega arith)
-opened_to (Assign f a) xs s o w = let y : ◌≡◌ {A = ℕ} 0 1 = cc in absurd (omega arith)
-opened_to EndIf xs s o w = let y : ◌≡◌ {A = ℕ} 0 1 = cc in absurd (omega arith)
-opened_to (Call n) xs s o w = (Idle, refl, λ j. let y : ◌≡◌ {A = ℕ} 0 1 = cc in absurd (omega arith))
-opened_to (Kind b) xs s o w = let y : ◌≡◌ {A = ℕ} 0 1 = cc in absurd (omega arith)
-opened_to (Pin a) xs s o w = let y : ◌≡◌ {A = ℕ} 0 1 = cc in absurd (omega arith)
-opened_to (Direct a) xs s o w = let y : ◌≡◌ {A = ℕ} 0 1 = cc in absurd (omega arith)
-opened_to (Mark m) xs s o w = (Idle, refl, λ j. let y : ◌≡◌ {A = ℕ} 0 1 = cc in absurd (omega arith))
-opened_to End xs s o w = (Idle, refl, λ j. let y : ◌≡◌ {A = ℕ} 0 1 = cc in absurd (omega arith))
+opened_to (Open t) xs s o w = cc
+opened_to Close xs s o w = cc
+opened_to (Operand a) xs s o w = cc
+opened_to (Operator a) xs s o w = cc
+opened_to (Compare c) xs s o w = cc
+opened_to (Assign f a) xs s o w = cc
+opened_to EndIf xs s o w = cc
+opened_to (Call n) xs s o w = (Idle, refl, λ j. cc)
+opened_to (Kind b) xs s o w = cc
+opened_to (Pin a) xs s o w = cc
+opened_to (Direct a) xs s o w = cc
+opened_to (Mark m) xs s o w = (Idle, refl, λ j. cc)
+opened_to End xs s o w = (Idle, refl, λ j. cc)
 
 -- the state behind an item that does not
 module _ (g h : Grammar) (x : Item) (e : grammar_step g x ≡ Some h) (s : Types) (i : in_phase g s ≡ true) (o : opens x ≡ false) (xs : List Item) where
@@ -282,7 +282,7 @@ module _ (g h : Grammar) (x : Item) (e : grammar_step g x ≡ Some h) (s : Types
   calm : idle s ≡ true → (v : Types) × (type_step s x ≡ Some v) × Cont v xs
   calm k =
       let n = none_begun k in
-      (Idle, subst (λ (a : Types). type_step a x ≡ Some Idle) (sym n) (idle_steps g h x e (subst (λ (a : Types). in_phase g a ≡ true) n i) o), λ j. let y : ◌≡◌ {A = ℕ} 0 1 = cc in absurd (omega arith))
+      (Idle, subst (λ (a : Types). type_step a x ≡ Some Idle) (sym n) (idle_steps g h x e (subst (λ (a : Types). in_phase g a ≡ true) n i) o), λ j. cc)
 
   pub unopened_to : (b : Bool) → idle s ≡ b → (idle s ≡ false → Fitting s (cond (opens x) [] (x ∷ sentence xs))) → (v : Types) × (type_step s x ≡ Some v) × Cont v xs
   unopened_to true k c = calm k
