@@ -21,7 +21,7 @@ pub trait BlockKind {
         ensures told { result ≡ (meaning.gives call.now.inputs cells.old call.now.ms).worked }
         ensures kept { cells.new ≡ (meaning.gives call.now.inputs cells.old call.now.ms).cells };
 
-    // How many history cells a call of the kind has.
+    // The kind has the cells that the catalogue gives it.
     ghost counted: { meaning.count ≡ cells_of KIND };
 
     // A window has room for three cells.
@@ -29,4 +29,11 @@ pub trait BlockKind {
 
     // What a block tells may be stored: each output is a value of its pin.
     ghost lawful: { (inputs cells : List ℤ) (ms : ℕ) → outputs_fit meaning.pins (meaning.gives inputs cells ms).worked.outputs ≡ true };
+
+    // How many history cells a call of the kind has.
+    final fn cells(&self) -> u16
+        ensures { result ≡ meaning.count }
+    {
+        Self::KIND.cells()
+    }
 }

@@ -68,7 +68,7 @@ pub fn work_at<B: BlockKind>(
 {
     let window = Window {
         first,
-        count: usize::from(B::KIND.cells()),
+        count: usize::from(block.cells()),
     };
     let mut cells = window.read(history);
     let worked = block.work(call, &mut cells);

@@ -1,11 +1,12 @@
 // CTUD, the counter up and down.
-ghost use Rattle.std.specs.Prelude.{◌≡◌, refl};
+ghost use Rattle.std.specs.Prelude.{◌≡◌, int_le, pos, refl};
+ghost use Rattle.blocks.specs.Pins.{bit, three_outputs};
 ghost use Rattle.catalogue.specs.declared.Block.TheVariants.{Ctud};
 ghost use Rattle.blocks.specs.Ctud.{ctud, counted_up, counted_down, counted, counted_on, counter_value, counter_cells};
 ghost use Rattle.blocks.specs.Holding.{ctud_fits};
 ghost use Rattle.std.proofs.Common.{rules};
 
-use crate::pins::{bit_of, is_on, rises, three_outputs, word_of};
+use crate::pins::{is_on, rises, three_outputs, word_of};
 use block::call::Call;
 use block::kind::BlockKind;
 use block::worked::Worked;
@@ -61,10 +62,16 @@ fn keep_count(inputs: &[i32; 5], cells: &mut [i32; 3]) -> i32
     ensures kept { cells.new ≡ counter_cells inputs.now cells.old }
 {
     let cv = next_value(inputs, cells);
-    cells[0] = bit_of(is_on(inputs[0]));
-    cells[1] = bit_of(is_on(inputs[1]));
+    cells[0] = i32::from(is_on(inputs[0]));
+    cells[1] = i32::from(is_on(inputs[1]));
     cells[2] = cv;
     cv
+}
+
+fn tell_count(pv: i32, cv: i32) -> Worked
+    ensures { result ≡ three_outputs (bit (int_le pv cv)) (bit (int_le cv (pos 0))) cv }
+{
+    three_outputs(i32::from(cv >= pv), i32::from(cv <= 0), cv)
 }
 
 impl BlockKind for Ctud {
@@ -83,7 +90,6 @@ impl BlockKind for Ctud {
     #[tactic(auto, unfolding(crate::specs::Ctud::ctud_gives))]
     fn work(&self, call: &Call, cells: &mut [i32; 3]) -> Worked {
         let cv = keep_count(&call.inputs, cells);
-        let pv = word_of(call.inputs[4]);
-        three_outputs(bit_of(cv >= pv), bit_of(cv <= 0), cv)
+        tell_count(word_of(call.inputs[4]), cv)
     }
 }

@@ -5,7 +5,7 @@ ghost use Rattle.blocks.specs.Esv.{esv};
 ghost use Rattle.blocks.specs.Holding.{esv_fits};
 ghost use Rattle.std.proofs.Common.{rules};
 
-use crate::pins::{bit_of, is_on, one_output};
+use crate::pins::{is_on, one_output};
 use crate::timing::count_time;
 use block::call::Call;
 use block::kind::BlockKind;
@@ -32,6 +32,6 @@ impl BlockKind for Esv {
     fn work(&self, call: &Call, cells: &mut [i32; 3]) -> Worked {
         let elapsed = count_time(call, cells);
         let is_due = rounded_delay(call.inputs[1]) <= elapsed;
-        one_output(bit_of(is_on(call.inputs[0]) && is_due))
+        one_output(i32::from(is_on(call.inputs[0]) && is_due))
     }
 }

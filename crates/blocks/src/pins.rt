@@ -2,7 +2,7 @@
 ghost use Rattle.std.specs.Prelude.{◌≡◌, true, not, ◌&&◌};
 ghost use Rattle.number.specs.Limits.{corrected, lawful};
 ghost use Rattle.number.specs.declared.limit.Width.TheVariants.{Word};
-ghost use Rattle.blocks.specs.Pins.{on, bit, three_outputs, one_output};
+ghost use Rattle.blocks.specs.Pins.{on, three_outputs, one_output};
 
 use block::worked::Worked;
 use number::limit::{Width, correct};
@@ -12,13 +12,6 @@ pub fn is_on(value: i32) -> bool
     ensures { result ≡ on value }
 {
     value != 0
-}
-
-// A bit as pins and cells hold it.
-pub fn bit_of(is_set: bool) -> i32
-    ensures { result ≡ bit is_set }
-{
-    i32::from(is_set)
 }
 
 // Whether a bit rises over the one that was kept.

@@ -5,7 +5,7 @@ ghost use Rattle.blocks.specs.RisingEdge.{rising_edge};
 ghost use Rattle.blocks.specs.Holding.{edge_fits};
 ghost use Rattle.std.proofs.Common.{rules};
 
-use crate::pins::{bit_of, is_on, one_output, rises};
+use crate::pins::{is_on, one_output, rises};
 use block::call::Call;
 use block::kind::BlockKind;
 use block::worked::Worked;
@@ -29,7 +29,7 @@ impl BlockKind for RisingEdge {
     #[tactic(auto, unfolding(crate::specs::RisingEdge::edge_gives))]
     fn work(&self, call: &Call, cells: &mut [i32; 3]) -> Worked {
         let pulse = rises(call.inputs[0], cells[0]);
-        cells[0] = bit_of(is_on(call.inputs[0]));
-        one_output(bit_of(pulse))
+        cells[0] = i32::from(is_on(call.inputs[0]));
+        one_output(i32::from(pulse))
     }
 }

@@ -2,7 +2,7 @@
 ghost use Rattle.std.specs.Prelude.{◌≡◌};
 ghost use Rattle.blocks.specs.Timing.{elapsed, timed_cells};
 
-use crate::pins::{bit_of, is_on};
+use crate::pins::is_on;
 use block::call::Call;
 use number::operations::at_least_zero;
 
@@ -25,7 +25,7 @@ pub fn count_time(call: &Call, cells: &mut [i32; 3]) -> u32
     ensures kept { cells.new ≡ timed_cells call.now.inputs cells.old call.now.ms }
 {
     let elapsed = elapsed_of(call, cells);
-    cells[0] = bit_of(is_on(call.inputs[0]));
+    cells[0] = i32::from(is_on(call.inputs[0]));
     cells[1] = elapsed as i32;
     elapsed
 }

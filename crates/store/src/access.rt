@@ -7,7 +7,7 @@ ghost use Rattle.store.specs.Changes.{new_store, step_set, stored_at, cell_put, 
 use crate::chain::Chain;
 use crate::place::{at, put};
 use crate::store::Store;
-use crate::word::{bit, limited_word, signed};
+use crate::word::limited_word;
 use number::limit::{Width, correct, limit};
 use operand::kind::Kind;
 
@@ -37,12 +37,15 @@ impl Store {
     {
         let p = usize::from(place);
         match kind {
-            Kind::Input => bit(at(&self.inputs, p, false)),
-            Kind::Output => bit(at(&self.outputs, p, false)),
-            Kind::Marker => bit(at(&self.markers, p, false)),
-            Kind::Step => bit(self.is_step_set(p / 16, (place % 16) as u8)),
-            Kind::Constant => bit(place == 1),
-            Kind::InputWord => correct(Width::Word, signed(at(&self.input_words, p, 0))),
+            Kind::Input => i32::from(at(&self.inputs, p, false)),
+            Kind::Output => i32::from(at(&self.outputs, p, false)),
+            Kind::Marker => i32::from(at(&self.markers, p, false)),
+            Kind::Step => i32::from(self.is_step_set(p / 16, (place % 16) as u8)),
+            Kind::Constant => i32::from(place == 1),
+            Kind::InputWord => {
+                let word = at(&self.input_words, p, 0).cast_signed();
+                correct(Width::Word, i32::from(word))
+            }
             Kind::OutputWord => correct(Width::Word, i32::from(at(&self.output_words, p, 0))),
             Kind::MarkerWord => correct(Width::Word, i32::from(at(&self.marker_words, p, 0))),
             Kind::ConstantWord => correct(Width::Word, i32::from(at(&self.constant_words, p, 0))),

@@ -6,7 +6,7 @@ ghost use Rattle.store.specs.Changes.{constant_at, group_loaded, word_loaded, cl
 use crate::chain::Chain;
 use crate::place::{at, fill, gather_word, put, spread_word};
 use crate::store::Store;
-use crate::word::{bits, limited_word};
+use crate::word::limited_word;
 use number::limit::{Width, limit};
 use operand::kind::Kind;
 
@@ -53,7 +53,7 @@ impl Store {
     pub fn tell_word(&self, place: u8) -> u16
         ensures { result ≡ word_told self.now place }
     {
-        bits(at(&self.output_words, usize::from(place), 0))
+        at(&self.output_words, usize::from(place), 0).cast_unsigned()
     }
 
     // Clears the groups of a kind from `first` to `last`. An inclusive range would also tell whether it was

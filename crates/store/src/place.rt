@@ -1,5 +1,5 @@
 // Elements by place: past the end nothing is read and nothing is written.
-ghost use Rattle.std.specs.Prelude.{◌≡◌, ◌+◌, ◌*◌, ◌%◌, ◌^◌, ◌<◌, false, get_or, if◌then◌else◌, ◌==◌, slice_index_or, slice_set};
+ghost use Rattle.std.specs.Prelude.{◌≡◌, slice_index_or, slice_set};
 ghost use Rattle.store.specs.Places.{filled, spread, gathered};
 
 // The element, or what stands for it past the end.

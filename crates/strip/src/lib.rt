@@ -1,7 +1,7 @@
 // A terminal strip over lent words: the input of point p at word 2p, its output at 2p + 1.
 #![tactic(auto)]
 
-ghost use Rattle.std.specs.Prelude.{◌≡◌, ℕ, ◌+◌, ◌*◌, ◌<◌, [], ◌∷◌, length, MatchResult};
+ghost use Rattle.std.specs.Prelude.{◌≡◌, ℕ, ◌*◌, [], ◌∷◌, MatchResult};
 ghost use Rattle.strip.specs.Strips.{on_strip, strip_inside, besides, Has};
 
 use plant::absent::Absent;
