@@ -30,7 +30,7 @@ pub enum WriteRefusal {
     TooLong,
 }
 
-// Puts words into the buffer from a place on; returns the place after them.
+// Puts words into the buffer from a place on; returns the place after them. Buffer and place stay apart: what is laid is told of the whole buffer.
 fn put(buffer: &mut [u16], at: usize, words: &[u16]) -> usize
     requires { at + length words.now ≤ length buffer.old }
     ensures next { result ≡ at + length words.now }

@@ -13,7 +13,7 @@ use std::process::ExitCode;
 use told::Told;
 use translate::translate::translate;
 
-// Room for the longest explanation.
+// Room for the longest explanation: `explain` writes into a lent buffer and tells the length.
 const EXPLAINED: usize = 256;
 
 fn asked_to_explain(rt: &HostRuntime) -> anyhow::Result<bool> {

@@ -1,4 +1,5 @@
-// What a pen puts.
+// What a pen puts. Not by `fmt::Write`: what `write!` answers may be an error as far as its contract
+// tells, and a listing that fits has none.
 ghost use Rattle.std.specs.Prelude.{◌≡◌, [], ◌∷◌, slice_set};
 ghost use Rattle.lay.specs.Digits.{two_digits};
 ghost use Rattle.lay.specs.Lays.{Puts};

@@ -29,6 +29,7 @@ fn put_line<T: Script>(pen: &mut Pen, entry: Option<T>)
     }
 }
 
+// Items and constants each in a loop: what a type parameter's iterator gives is not told by its bound alone.
 fn put_items(pen: &mut Pen, items: Items)
     ensures { Puts pen.old (item_lines (items_of items.entry.edition items.entry.words.now)) pen.new }
 {

@@ -17,7 +17,7 @@ pub struct Unfitted {
 }
 
 impl Unfitted {
-    // The question that got a no.
+    // The question that got a no: a number, since the questions of a run have no words.
     pub fn question(self) -> u16
         ensures { result ≡ (told_of self).question }
     {

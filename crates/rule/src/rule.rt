@@ -17,7 +17,7 @@ pub trait Rule: Sized + Copy {
     fn step(self, item: Item) -> Option<Self>
         ensures { result ≡ automaton.step self item };
 
-    // Whether the list may end here.
+    // Whether the list may end here. Without a body: one that says yes would have to be right of every automaton.
     fn ends(self) -> bool
         ensures { result ≡ automaton.ends self };
 

@@ -11,6 +11,7 @@ use image::write::{IDENTIFIER, MOST_CONSTANTS, MOST_ITEMS};
 use operand::edition::{Edition, UnknownEdition};
 
 // The parts of an image whose trailer is in order. Words before the first item are not seen.
+// Items and constants are of one edition, so it stands once, and methods give each with it.
 #[derive(Clone, Copy)]
 pub struct Image<'a> {
     pub edition: Edition,
