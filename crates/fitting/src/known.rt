@@ -6,7 +6,7 @@ ghost use Rattle.std.proofs.Common.{rules};
 use item::item::Item;
 use rule::rule::Rule;
 
-// Nothing need be kept from item to item.
+// Nothing need be kept from item to item. A type of its own beside Targets, since a rule is told by its type.
 #[derive(Clone, Copy)]
 pub struct Known;
 

@@ -10,7 +10,7 @@ use operand::kind::Kind;
 use operand::operand::Operand;
 use rule::rule::Rule;
 
-// Nothing need be kept from item to item.
+// Nothing need be kept from item to item. A type of its own beside Known, since a rule is told by its type.
 #[derive(Clone, Copy)]
 pub struct Targets;
 

@@ -1,5 +1,5 @@
 -- An item is known by its number.
-use Rattle.std.proofs.Common.{◌≡◌, ℕ, ◌/◌, true, false, List, length, Some, None, Option, sym, refl, ap, ◌∙◌, eq-eqb}
+use Rattle.std.proofs.Common.{◌≡◌, ℕ, ◌/◌, true, false, List, length, Some, None, Option, sym, refl, ap, ◌∙◌, subst, eq-eqb}
 use Rattle.operand.specs.declared.edition.Edition.{Edition}
 use Rattle.item.specs.declared.item.Item.{Item}
 use Rattle.item.specs.declared.item.Item.TheVariants.{Nop, Start, Open, Close, Operand, Operator, Compare, Assign, EndIf, Call, Kind, Pin, Direct, Mark, End}
@@ -90,3 +90,6 @@ in_words e ws p m None d = λ k i j t. d k i j (marked_is m (item_at e ws k) t)
 
 pub next_exact : (e : Edition) (ws : List ℕ) (p m : ℕ) → Next e ws p m (next_mark e ws p m)
 next_exact e ws p m = in_words e ws p m (next_mark e ws p m) (exact (mark_at e ws m) (length ws / 2) p)
+
+pub next_so : (e : Edition) (ws : List ℕ) (p m : ℕ) (r : Option ℕ) → r ≡ next_mark e ws p m → Next e ws p m r
+next_so e ws p m r h = subst (Next e ws p m) (sym h) (next_exact e ws p m)

@@ -5,7 +5,7 @@ ghost use Rattle.marks.specs.Marks.{mark_at, next_mark, Next};
 use decode::items::Items;
 use item::item::Item;
 
-// The number of a mark item.
+// The number of a mark item, as Mnemonic::Mark has it: a number that is asked of every item is a constant, and a call is none.
 const MARK: u16 = 50;
 
 // Whether the item at a place is the mark with that number. Only a mark has a mark's number, so no other item is decoded.
@@ -17,14 +17,21 @@ fn is_mark_at(items: Items, place: usize, mark: u16) -> bool
         && matches!(items.get(place), Some(Item::Mark(found)) if found == mark)
 }
 
-// The place of the next mark item with that number from a place on, if there is one.
-pub fn find_mark(items: Items, from: usize, mark: u16) -> Option<usize>
-    ensures value { result ≡ next_mark items.entry.edition items.entry.words.now from mark }
-    ensures next { Next items.entry.edition items.entry.words.now from mark result }
+fn first_mark(items: Items, from: usize, mark: u16) -> Option<usize>
+    ensures { result ≡ next_mark items.entry.edition items.entry.words.now from mark }
 {
     (from..items.len()).find(
         |&place|
             requires { place < length items.words.now / 2 }
         { is_mark_at(items, place, mark) },
     )
+}
+
+// The place of the next mark item with that number from a place on, if there is one.
+#[tactic(auto, using(crate::proofs::Numbers::next_so))]
+pub fn find_mark(items: Items, from: usize, mark: u16) -> Option<usize>
+    ensures value { result ≡ next_mark items.entry.edition items.entry.words.now from mark }
+    ensures next { Next items.entry.edition items.entry.words.now from mark result }
+{
+    first_mark(items, from, mark)
 }

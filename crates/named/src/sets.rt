@@ -7,6 +7,7 @@ use crate::point::{NamedPoint, Side, known_point};
 use decode::items::Items;
 
 // A flag for each point: whether an item names its input, and whether one names its output.
+// Two sets and no table of pairs: a caller hands on each whole, in fixed memory.
 #[derive(Clone, Copy)]
 pub struct Named {
     pub inputs: [bool; 192],

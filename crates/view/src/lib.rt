@@ -10,8 +10,7 @@ use decode::items::Items;
 use image::write::{IDENTIFIER, MOST_CONSTANTS, MOST_ITEMS};
 use operand::edition::{Edition, UnknownEdition};
 
-// The parts of an image whose trailer is in order. Words before the first item are not seen.
-// Items and constants are of one edition, so it stands once, and methods give each with it.
+// The parts of an image whose trailer is in order, both of one edition. Words before the first item are not seen.
 #[derive(Clone, Copy)]
 pub struct Image<'a> {
     pub edition: Edition,
