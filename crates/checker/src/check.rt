@@ -21,7 +21,7 @@ use view::{Image, view_image};
 pub const MOST_CELLS: u16 = 1024;
 
 // What an image that passes has.
-#[derive(Clone, Copy)]
+#[derive(Clone, Copy, Debug, PartialEq, Eq)]
 pub struct Passed {
     pub items: u16,
     pub cells: u16,
@@ -31,10 +31,7 @@ pub struct Passed {
 fn refuse(refusal: Option<CheckRefusal>) -> Result<(), CheckRefusal>
     ensures { MatchOption refusal (result ≡ Ok-of tt) (λ q. result ≡ Err-of q) }
 {
-    match refusal {
-        Some(refusal) => Err(refusal),
-        None => Ok(()),
-    }
+    refusal.map_or(Ok(()), Err)
 }
 
 // Questions 4 and 5: whether constants and items are known.
@@ -55,7 +52,7 @@ fn judge_list(items: Items, cells: u16) -> Result<(), CheckRefusal>
     refuse(find_fault::<Targets>(items).map(CheckRefusal::NoTarget))?;
     refuse(find_fault::<Pins>(items).map(CheckRefusal::NoPin))?;
     refuse(jump_fault(items).map(CheckRefusal::NoMark))?;
-    if count_cells(items) == cells as usize && cells <= MOST_CELLS {
+    if count_cells(items) == usize::from(cells) && cells <= MOST_CELLS {
         Ok(())
     } else {
         Err(CheckRefusal::NoCells)

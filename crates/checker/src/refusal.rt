@@ -6,7 +6,7 @@ use told::Told;
 use told::question::Question;
 use view::OpenRefusal;
 
-#[derive(Clone, Copy)]
+#[derive(Clone, Copy, Debug, PartialEq, Eq)]
 pub enum CheckRefusal {
     // not six words, or the last is not AC31h
     NoTrailer,

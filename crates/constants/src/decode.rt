@@ -1,4 +1,4 @@
-// From the three words of a constant to the constant.
+// From the three words of a constant to the constant. Low and high word stay two parameters, as they are two words of the image.
 ghost use Rattle.std.specs.Iterator.{YieldsFirst, at_most};
 ghost use Rattle.std.specs.Prelude.{◌≡◌, ◌/◌, length};
 ghost use Rattle.constants.specs.Decoded.{word_value, double_value, word_constant, double_constant, constant_decoded, constants_of};
@@ -13,7 +13,7 @@ use operand::operand::{Operand, decode};
 pub fn signed_word(bits: u16) -> i32
     ensures { result ≡ word_value bits }
 {
-    bits.cast_signed() as i32
+    i32::from(bits.cast_signed())
 }
 
 // The value of 32 bits in two's complement.
@@ -39,7 +39,7 @@ fn double_at(operand: Operand, low: u16, high: u16) -> Option<Constant>
 {
     (low != 0 || high != 0x8000).then_some(Constant {
         operand,
-        value: signed_double(0x1_0000 * high as u32 + low as u32),
+        value: signed_double(0x1_0000 * u32::from(high) + u32::from(low)),
     })
 }
 
@@ -64,6 +64,7 @@ pub fn decode_constant(edition: Edition, code: u16, low: u16, high: u16) -> Opti
 
 // An edition and the words of a list's constants, three words each: operand code, low word, high word.
 // As an iterator it gives each constant, or none in its place where the words are those of none; words short of three at the end are left out.
+// A type of its own beside Items: what the words stand for, how many they are and which definitions tell it all differ.
 #[derive(Clone, Copy)]
 pub struct Constants<'a> {
     pub edition: Edition,

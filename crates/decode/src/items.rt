@@ -27,6 +27,7 @@ impl<'a> Items<'a> {
     pub fn get(self, place: usize) -> Option<Item>
         ensures { result ≡ item_in self.entry.edition self.entry.words.now place }
     {
+        // By place: tried by chunks of two, and the proof did not close.
         if place < self.len() {
             decode_item(
                 self.edition,

@@ -1,4 +1,5 @@
-// From the two words of an item to the typed item.
+// From the two words of an item to the typed item. An argument is read in an edition; the two go no further than from one function
+// to the next, so they stay two parameters.
 #![tactic(auto)]
 
 ghost use Rattle.std.specs.Prelude.{◌≡◌};

@@ -40,6 +40,7 @@ fn put_shown(pen: &mut Pen, items: &[u16], place: usize)
     }
 }
 
+// The refusal, the text and the items are what `explain` is handed, and go from there to here and no further.
 fn put_place(pen: &mut Pen, told: Told, text: &[u8], items: &[u16])
     ensures { Puts pen.old (place_shown told text.now items.now) pen.new }
 {

@@ -8,8 +8,5 @@ use told::question::Question;
 pub fn question_words(number: u16) -> &'static str
     ensures { result.now ≡ words_for number }
 {
-    match Question::try_from(number) {
-        Ok(question) => question.words(),
-        Err(_) => "",
-    }
+    Question::try_from(number).map_or("", Question::words)
 }

@@ -7,7 +7,7 @@ use item::item::Item;
 use rule::rule::Rule;
 
 // How many brackets are open.
-#[derive(Clone, Copy)]
+#[derive(Clone, Copy, Debug, PartialEq, Eq)]
 pub struct Depth {
     pub brackets: u8,
 }

@@ -7,7 +7,7 @@ use item::item::Item;
 use rule::rule::Rule;
 
 // Nothing need be kept from item to item. A type of its own beside Targets, since a rule is told by its type.
-#[derive(Clone, Copy)]
+#[derive(Clone, Copy, Debug, PartialEq, Eq)]
 pub struct Known;
 
 impl Rule for Known {

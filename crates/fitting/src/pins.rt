@@ -10,7 +10,7 @@ use operand::operand::Operand;
 use rule::rule::Rule;
 
 // Which pin is due. Not an Option: a rule is told by the type of its state, so a pair in an Option would need a struct around it.
-#[derive(Clone, Copy)]
+#[derive(Clone, Copy, Debug, PartialEq, Eq)]
 pub enum Pins {
     Idle,
     At(Block, usize),
@@ -32,7 +32,7 @@ fn fits(pin: Pin, operand: Operand) -> bool
 fn direct_fits(pin: Pin, word: u16) -> bool
     ensures { result ≡ direct_fits pin word }
 {
-    matches!(pin, Pin::Mark) && word < 1000
+    pin == Pin::Mark && word < 1000
 }
 
 // The pin with a number, if the kind has so many.

@@ -11,13 +11,13 @@ use operand::operand::Operand;
 use rule::rule::Rule;
 
 // Nothing need be kept from item to item. A type of its own beside Known, since a rule is told by its type.
-#[derive(Clone, Copy)]
+#[derive(Clone, Copy, Debug, PartialEq, Eq)]
 pub struct Targets;
 
 pub fn is_step(kind: Kind) -> bool
     ensures { result ≡ is_step kind }
 {
-    matches!(kind, Kind::Step)
+    kind == Kind::Step
 }
 
 fn may_assign(form: Form, operand: Operand) -> bool

@@ -1,4 +1,4 @@
-// Operands and numbers that a token stands for.
+// Operands and numbers that a token stands for. Each takes its token by `let .. else`, and refuses with the place of one that it is not.
 ghost use Rattle.std.specs.Prelude.{◌≡◌};
 ghost use Rattle.numeral.specs.Numerals.{natural};
 ghost use Rattle.token.specs.Reads.{meaning};
@@ -37,7 +37,7 @@ pub fn read_operand(edition: Edition, kind: Kind, placed: Placed) -> Result<Oper
     operand_of(edition, kind, group, channel).ok_or(Misfit { place })
 }
 
-// The number from `low` to `high` that a token is.
+// The number from `low` to `high` that a token is: two numbers, as `read_value` has them.
 pub fn read_number(placed: Placed, low: i32, high: i32) -> Result<i32, Misfit>
     ensures { result ≡ fitting placed.entry.place (value_in low high (meaning placed.entry.token)) }
 {

@@ -47,7 +47,7 @@ pub struct State {
 }
 
 // What a token adds to the list.
-#[derive(Clone, Copy)]
+#[derive(Clone, Copy, Debug, PartialEq, Eq)]
 pub enum Put {
     Nothing,
     Item(Item),
@@ -56,7 +56,7 @@ pub enum Put {
     Constant(Constant),
 }
 
-#[derive(Clone, Copy)]
+#[derive(Clone, Copy, Debug, PartialEq, Eq)]
 pub struct Step {
     pub put: Put,
     pub state: State,

@@ -8,7 +8,7 @@ use item::item::Item;
 use rule::rule::Rule;
 
 // What a sentence has outside all brackets so far.
-#[derive(Clone, Copy)]
+#[derive(Clone, Copy, Debug, PartialEq, Eq)]
 pub enum Side {
     // one term
     First,
@@ -18,7 +18,7 @@ pub enum Side {
     Compared,
 }
 
-#[derive(Clone, Copy)]
+#[derive(Clone, Copy, Debug, PartialEq, Eq)]
 pub enum Grammar {
     // a sentence, call, mark, NOP or the end
     Between,
@@ -119,6 +119,6 @@ impl Rule for Grammar {
     }
 
     fn ends(self) -> bool {
-        matches!(self, Self::Done)
+        self == Self::Done
     }
 }

@@ -5,7 +5,7 @@ ghost use Rattle.image.specs.Constants.{bits_32, low_word, high_word};
 use operand::kind::Size;
 use operand::operand::Operand;
 
-#[derive(Clone, Copy)]
+#[derive(Clone, Copy, Debug, PartialEq, Eq)]
 pub struct Constant {
     pub operand: Operand,
     pub value: i32,

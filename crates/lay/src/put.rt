@@ -18,7 +18,7 @@ impl<'a> Pen<'a> {
 }
 
 impl Pen<'_> {
-    // Past the end nothing is written.
+    // Past the end nothing is written. Not by `get_mut`, which would tell nothing of what is written through it.
     fn store(&mut self, byte: u8)
         ensures buffer { self.new.out.now ≡ slice_set self.old.out.now self.old.at byte }
         ensures lender { self.new.out.ghost_name ≡ self.old.out.ghost_name }

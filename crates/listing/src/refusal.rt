@@ -6,7 +6,7 @@ use checker::refusal::CheckRefusal;
 use told::Told;
 use told::question::Question;
 
-#[derive(Clone, Copy)]
+#[derive(Clone, Copy, Debug, PartialEq, Eq)]
 pub enum ListRefusal {
     // one of the questions 1 to 5 got a no
     NotListed(CheckRefusal),

@@ -10,7 +10,7 @@ use item::item::Nameless;
 const KIND: u16 = Nameless::Kind as u16;
 
 // The cells that the item at a place asks for: those of the block kind that it names.
-// Only an item that names one has its number, so no other item is decoded.
+// Only an item that names one has its number, so no other item is decoded. Asked of a place that there is, by the loop that walks them.
 fn cells_at(items: Items, place: usize, number: u16) -> usize
     requires { (place < length items.words.now / 2) × (number ≡ slice_index items.words.now (2 * place)) }
     ensures value { result ≡ cells_asked (item_at items.entry.edition items.entry.words.now place) }
@@ -19,7 +19,7 @@ fn cells_at(items: Items, place: usize, number: u16) -> usize
     if number != KIND {
         return 0;
     }
-    items.get(place).map_or(0, |item| item.cells() as usize)
+    items.get(place).map_or(0, |item| usize::from(item.cells()))
 }
 
 // The history cells of all calls.

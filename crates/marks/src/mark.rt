@@ -8,7 +8,7 @@ use item::item::Item;
 // The number of a mark item, as Mnemonic::Mark has it: a number that is asked of every item is a constant, and a call is none.
 const MARK: u16 = 50;
 
-// Whether the item at a place is the mark with that number. Only a mark has a mark's number, so no other item is decoded.
+// Whether the item at a place is the mark with that number. Asked of a place that there is, since its definition tells nothing of others. Only a mark has a mark's number, so no other item is decoded.
 fn is_mark_at(items: Items, place: usize, mark: u16) -> bool
     requires { place < length items.words.now / 2 }
     ensures { result ≡ mark_at items.entry.edition items.entry.words.now mark place }

@@ -32,7 +32,8 @@ impl Memory {
         self.put_input_word(place, word);
     }
 
-    // Clears the groups of a kind from `first` to `last`: all 0, a chain at step 0.
+    // Clears the groups of a kind from `first` to `last`: all 0, a chain at step 0. Two numbers, since an inclusive range would also
+    // tell whether it was used up.
     pub fn clear(&mut self, kind: Kind, first: u8, last: u8)
         ensures value { self.new.store ≡ cleared self.old.store kind first last }
         ensures law { Clears self.old.store self.new.store kind first last }

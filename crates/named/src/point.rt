@@ -38,7 +38,7 @@ fn point_from(side: Side, first: u16, number: u16, limit: u16) -> Option<NamedPo
 fn group_point(side: Side, group: u8) -> Option<NamedPoint>
     ensures { result ≡ group_point side group }
 {
-    point_from(side, 0, group as u16, 64)
+    point_from(side, 0, u16::from(group), 64)
 }
 
 // Points 64 to 191 are the places of EW and AW.
@@ -84,7 +84,7 @@ pub fn known_point(item: Option<Item>) -> Option<NamedPoint>
     item_point(item?)
 }
 
-// The point that the item at a place names.
+// The point that the item at a place names. Asked of a place that there is, since its definition tells nothing of others.
 pub fn point_at(items: Items, place: usize) -> Option<NamedPoint>
     requires { place < length items.words.now / 2 }
     ensures { result ≡ point_at items.entry.edition items.entry.words.now place }

@@ -19,7 +19,7 @@ fn mark(set: &mut [bool; 192], side: Side, named: Option<NamedPoint>)
 {
     if let Some(named) = named {
         if named.side == side && named.point < 192 {
-            set[named.point as usize] = true;
+            set[usize::from(named.point)] = true;
         }
     }
 }

@@ -1,4 +1,5 @@
-// The operations on words: the exact whole number, limited once.
+// The operations on words: the exact whole number, limited once. Each tells that its result is lawful: a type of lawful words would
+// have to be taken apart at each use, since every operation takes any value.
 ghost use Rattle.std.specs.Prelude.{◌≡◌, true, negsuc, ◌*ℤ◌, ◌≤ℤ◌};
 ghost use Rattle.number.specs.Limits.{lawful};
 ghost use Rattle.number.specs.Operations.{sum, difference, product, negative, quotient, scaled, natural, rounded_delay, cut};

@@ -103,7 +103,7 @@ impl Operand {
     pub fn place(self) -> u16
         ensures { result ≡ Rattle.operand.specs.Codes.place_of self }
     {
-        16 * self.group as u16 + self.channel as u16
+        16 * u16::from(self.group) + u16::from(self.channel)
     }
 
     #[tactic(auto, using(crate::proofs::Undoing::undone))]

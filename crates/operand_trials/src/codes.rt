@@ -13,7 +13,7 @@ static PLACES: [u16; 11] = [1024, 1024, 4096, 2048, 2, 128, 128, 4096, 640, 512,
 // Whether an operand of the kind with that number stands at the place.
 fn is_there(number: u16, place: u16) -> bool {
     PLACES
-        .get(number as usize)
+        .get(usize::from(number))
         .is_some_and(|places| place < *places)
 }
 
@@ -32,8 +32,8 @@ fn check_operand(rt: &impl Abort, operand: Operand, code: u16) {
     assert_eq!(rt; operand.code(), code, "{code}");
     assert_eq!(rt; operand.kind.number(), code / 4096, "{code}");
     assert_eq!(rt; operand.place(), place, "{code}");
-    assert_eq!(rt; operand.group as u16, place / 16, "{code}");
-    assert_eq!(rt; operand.channel as u16, place % 16, "{code}");
+    assert_eq!(rt; u16::from(operand.group), place / 16, "{code}");
+    assert_eq!(rt; u16::from(operand.channel), place % 16, "{code}");
     assert_eq!(rt;
         operand.is_writable(),
         is_writable(code / 4096, place),
@@ -86,7 +86,7 @@ fn codes_are_undone(rt: HostRuntime) -> Result<(), Fail> {
 
 // Whether there is an operand of the kind at the group and the channel: as it must be.
 fn check_at(rt: &impl Abort, kind: Kind, group: u8, channel: u8) -> bool {
-    let place = 16 * group as u16 + channel as u16;
+    let place = 16 * u16::from(group) + u16::from(channel);
     let expected = channel < 16 && is_there(kind.number(), place);
     let found = operand_at(Edition::Series90, kind, group, channel);
     let operand = Operand {
@@ -115,7 +115,7 @@ fn check_kind(rt: &impl Abort, kind: Kind) -> usize {
 fn operands_lie_in_their_range(rt: HostRuntime) -> Result<(), Fail> {
     for (number, places) in PLACES.iter().enumerate() {
         let kind = Kind::try_from(number as u16).map_err(|_| "no kind")?;
-        assert_eq!(rt; check_kind(&rt, kind), *places as usize);
+        assert_eq!(rt; check_kind(&rt, kind), usize::from(*places));
     }
     Ok(())
 }

@@ -1,4 +1,4 @@
-// How items and constants are written.
+// How items and constants are written: with a pen, and not by `Display`, whose contract lets it fail.
 #![tactic(auto)]
 
 ghost use Rattle.item.specs.Mnemonics.{name_of};

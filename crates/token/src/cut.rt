@@ -51,10 +51,7 @@ pub fn run_end(text: &[u8], from: usize) -> usize
     ensures on { from ≤ result }
     ensures within { from ≤ length text.now → result ≤ length text.now }
 {
-    match text.get(from..) {
-        Some(run) => from + run_length(run),
-        None => from,
-    }
+    from + text.get(from..).map_or(0, run_length)
 }
 
 impl<'a> Iterator for Parts<'a> {

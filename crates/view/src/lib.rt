@@ -44,7 +44,7 @@ impl<'a> Image<'a> {
     }
 }
 
-#[derive(Clone, Copy)]
+#[derive(Clone, Copy, Debug, PartialEq, Eq)]
 pub enum OpenRefusal {
     // not six words, or the last is not AC31h
     NoTrailer,
@@ -90,9 +90,9 @@ impl Trailer {
     fn fits(self, words: usize) -> bool
         ensures { result ≡ sizes_agree self.back self.items self.constants words }
     {
-        let back = self.back as usize;
-        let items = self.items as usize;
-        let constants = self.constants as usize;
+        let back = usize::from(self.back);
+        let items = usize::from(self.items);
+        let constants = usize::from(self.constants);
         back == 2 * items + 3 * constants + 6
             && back <= words
             && items <= MOST_ITEMS
@@ -110,9 +110,9 @@ pub fn view_image<'a>(words: &'a [u16]) -> Result<Image<'a>, OpenRefusal>
     if !trailer.fits(words.len()) {
         return Err(OpenRefusal::NoFit);
     }
-    let first = words.len() - trailer.back as usize;
-    let behind = first + 2 * trailer.items as usize;
-    let end = behind + 3 * trailer.constants as usize;
+    let first = words.len() - usize::from(trailer.back);
+    let behind = first + 2 * usize::from(trailer.items);
+    let end = behind + 3 * usize::from(trailer.constants);
     Ok(Image {
         edition,
         items: &words[first..behind],

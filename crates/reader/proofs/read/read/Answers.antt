@@ -1,6 +1,7 @@
 use Rattle.reader.proofs.Walking.{refused, stopped, went_on, complete, missing}
 use Rattle.reader.proofs.read.read.Goals as goal
 
+-- tried: with these five lemmas named at the function, goals stay open
 pub returns-in_err-step : goal.returns-in_err-step
 returns-in_err-step c =
     let stops = stopped c.args.edition c.args.end c.args.tokens.now _ _ _ c.loop-placed.invariant _ _ c.loop-placed-test.true c.in_err-step.ensures in
