@@ -98,7 +98,7 @@ impl Rule for Types {
             Item::Open(turn) => self.turned(turn),
             Item::Operand(operand) => self.taken(operand),
             Item::Operator(operator) => self.joined(operator),
-            Item::Compare(_) => self == Types::Words.then_some(Types::Compared),
+            Item::Compare(_) => (self == Types::Words).then_some(Types::Compared),
             Item::Assign(form, operand) => self.assigned(form, operand),
             Item::EndIf => matches!(self, Types::Bits | Types::Compared).then_some(Types::Idle),
             _ => Some(Types::Idle),

@@ -75,7 +75,8 @@ fn words_of(heap: Global, shown: &str) -> Result<Vec<u16>, Fail> {
     Ok(words)
 }
 
-// The image in a buffer with room for so many words more, which are as before.
+// The image in a buffer with room for so many words more, which are as before. Here and below a handle and an allocator are handed on,
+// as the library's macros take them.
 fn check_written(
     rt: &impl Abort,
     heap: Global,
