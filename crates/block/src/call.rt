@@ -1,6 +1,6 @@
 // What a call of a block is worked on.
 
-#[derive(Clone, Copy)]
+#[derive(Clone, Copy, Debug, PartialEq, Eq)]
 pub struct Call {
     // in pin order; what a kind does not have is not read
     pub inputs: [i32; 5],

@@ -1,6 +1,6 @@
 // What the working of a block tells.
 
-#[derive(Clone, Copy)]
+#[derive(Clone, Copy, Debug, PartialEq, Eq)]
 pub struct Worked {
     // in pin order; what a kind does not have is 0
     pub outputs: [i32; 3],

@@ -1,7 +1,6 @@
 // CTUD, the counter up and down.
-ghost use Rattle.std.specs.Prelude.{◌≡◌, int_le, pos, refl};
+ghost use Rattle.std.specs.Prelude.{◌≡◌, int_le, pos};
 ghost use Rattle.blocks.specs.Pins.{bit, three_outputs};
-ghost use Rattle.catalogue.specs.declared.Block.TheVariants.{Ctud};
 ghost use Rattle.blocks.specs.Ctud.{ctud, counted_up, counted_down, counted, counted_on, counter_value, counter_cells};
 ghost use Rattle.blocks.specs.Holding.{ctud_fits};
 ghost use Rattle.std.proofs.Common.{rules};
@@ -77,15 +76,13 @@ fn tell_count(pv: i32, cv: i32) -> Worked
 impl BlockKind for Ctud {
     ghost meaning = { ctud };
 
-    ghost KIND = { Ctud };
-
-    const KIND: Block = Block::Ctud;
-
-    ghost counted = { refl };
-
     ghost small = { Prim.search rules };
 
     ghost lawful = { ctud_fits };
+
+    fn cells(&self) -> u16 {
+        Block::Ctud.cells()
+    }
 
     #[tactic(auto, unfolding(crate::specs::Ctud::ctud_gives))]
     fn work(&self, call: &Call, cells: &mut [i32; 3]) -> Worked {

@@ -1,6 +1,4 @@
 // ESV, the delay on.
-ghost use Rattle.std.specs.Prelude.{refl};
-ghost use Rattle.catalogue.specs.declared.Block.TheVariants.{Esv};
 ghost use Rattle.blocks.specs.Esv.{esv};
 ghost use Rattle.blocks.specs.Holding.{esv_fits};
 ghost use Rattle.std.proofs.Common.{rules};
@@ -18,15 +16,13 @@ pub struct Esv;
 impl BlockKind for Esv {
     ghost meaning = { esv };
 
-    ghost KIND = { Esv };
-
-    const KIND: Block = Block::Esv;
-
-    ghost counted = { refl };
-
     ghost small = { Prim.search rules };
 
     ghost lawful = { esv_fits };
+
+    fn cells(&self) -> u16 {
+        Block::Esv.cells()
+    }
 
     #[tactic(auto, unfolding(crate::specs::Esv::esv_gives))]
     fn work(&self, call: &Call, cells: &mut [i32; 3]) -> Worked {

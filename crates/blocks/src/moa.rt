@@ -1,6 +1,4 @@
 // MOA, the pulse that ends with T.
-ghost use Rattle.std.specs.Prelude.{refl};
-ghost use Rattle.catalogue.specs.declared.Block.TheVariants.{Moa};
 ghost use Rattle.blocks.specs.Moa.{moa};
 ghost use Rattle.blocks.specs.Holding.{moa_fits};
 ghost use Rattle.std.proofs.Common.{rules};
@@ -18,15 +16,13 @@ pub struct Moa;
 impl BlockKind for Moa {
     ghost meaning = { moa };
 
-    ghost KIND = { Moa };
-
-    const KIND: Block = Block::Moa;
-
-    ghost counted = { refl };
-
     ghost small = { Prim.search rules };
 
     ghost lawful = { moa_fits };
+
+    fn cells(&self) -> u16 {
+        Block::Moa.cells()
+    }
 
     #[tactic(auto, unfolding(crate::specs::Moa::moa_gives))]
     fn work(&self, call: &Call, cells: &mut [i32; 3]) -> Worked {

@@ -1,6 +1,5 @@
 // MULDI, a product divided.
-ghost use Rattle.std.specs.Prelude.{◌≡◌, refl};
-ghost use Rattle.catalogue.specs.declared.Block.TheVariants.{Muldi};
+ghost use Rattle.std.specs.Prelude.{◌≡◌};
 ghost use Rattle.blocks.specs.Muldi.{muldi, muldi_output};
 ghost use Rattle.blocks.specs.Holding.{muldi_fits};
 ghost use Rattle.std.proofs.Common.{rules};
@@ -23,15 +22,13 @@ fn scale(inputs: &[i32; 5]) -> i32
 impl BlockKind for Muldi {
     ghost meaning = { muldi };
 
-    ghost KIND = { Muldi };
-
-    const KIND: Block = Block::Muldi;
-
-    ghost counted = { refl };
-
     ghost small = { Prim.search rules };
 
     ghost lawful = { muldi_fits };
+
+    fn cells(&self) -> u16 {
+        Block::Muldi.cells()
+    }
 
     #[tactic(auto, unfolding(crate::specs::Muldi::muldi_gives))]
     fn work(&self, call: &Call, _cells: &mut [i32; 3]) -> Worked {

@@ -1,6 +1,4 @@
 // I+, the rising edge.
-ghost use Rattle.std.specs.Prelude.{refl};
-ghost use Rattle.catalogue.specs.declared.Block.TheVariants.{RisingEdge};
 ghost use Rattle.blocks.specs.RisingEdge.{rising_edge};
 ghost use Rattle.blocks.specs.Holding.{edge_fits};
 ghost use Rattle.std.proofs.Common.{rules};
@@ -16,15 +14,13 @@ pub struct RisingEdge;
 impl BlockKind for RisingEdge {
     ghost meaning = { rising_edge };
 
-    ghost KIND = { RisingEdge };
-
-    const KIND: Block = Block::RisingEdge;
-
-    ghost counted = { refl };
-
     ghost small = { Prim.search rules };
 
     ghost lawful = { edge_fits };
+
+    fn cells(&self) -> u16 {
+        Block::RisingEdge.cells()
+    }
 
     #[tactic(auto, unfolding(crate::specs::RisingEdge::edge_gives))]
     fn work(&self, call: &Call, cells: &mut [i32; 3]) -> Worked {

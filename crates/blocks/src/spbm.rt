@@ -1,6 +1,4 @@
 // SPBM, the jump.
-ghost use Rattle.std.specs.Prelude.{refl};
-ghost use Rattle.catalogue.specs.declared.Block.TheVariants.{Spbm};
 ghost use Rattle.blocks.specs.Spbm.{spbm};
 ghost use Rattle.blocks.specs.Holding.{spbm_fits};
 ghost use Rattle.std.proofs.Common.{rules};
@@ -16,15 +14,13 @@ pub struct Spbm;
 impl BlockKind for Spbm {
     ghost meaning = { spbm };
 
-    ghost KIND = { Spbm };
-
-    const KIND: Block = Block::Spbm;
-
-    ghost counted = { refl };
-
     ghost small = { Prim.search rules };
 
     ghost lawful = { spbm_fits };
+
+    fn cells(&self) -> u16 {
+        Block::Spbm.cells()
+    }
 
     #[tactic(auto, unfolding(crate::specs::Spbm::spbm_gives))]
     fn work(&self, call: &Call, _cells: &mut [i32; 3]) -> Worked {

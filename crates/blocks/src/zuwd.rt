@@ -1,6 +1,4 @@
 // ZUWD, a double copied.
-ghost use Rattle.std.specs.Prelude.{refl};
-ghost use Rattle.catalogue.specs.declared.Block.TheVariants.{Zuwd};
 ghost use Rattle.blocks.specs.Zuwd.{zuwd};
 ghost use Rattle.blocks.specs.Holding.{zuwd_fits};
 ghost use Rattle.std.proofs.Common.{rules};
@@ -17,15 +15,13 @@ pub struct Zuwd;
 impl BlockKind for Zuwd {
     ghost meaning = { zuwd };
 
-    ghost KIND = { Zuwd };
-
-    const KIND: Block = Block::Zuwd;
-
-    ghost counted = { refl };
-
     ghost small = { Prim.search rules };
 
     ghost lawful = { zuwd_fits };
+
+    fn cells(&self) -> u16 {
+        Block::Zuwd.cells()
+    }
 
     #[tactic(auto, unfolding(crate::specs::Zuwd::zuwd_gives))]
     fn work(&self, call: &Call, _cells: &mut [i32; 3]) -> Worked {
