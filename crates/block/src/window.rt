@@ -7,7 +7,7 @@ use crate::call::Call;
 use crate::kind::BlockKind;
 use crate::worked::Worked;
 
-// The cells of a call: `count` of them, from `first` on. They may lie past the history's end, where nothing stands.
+// The cells of a call: `count` of them, from `first` on, in an array of three, since memory is fixed. They may lie past the history's end, where nothing stands.
 #[derive(Clone, Copy)]
 struct Window {
     first: usize,
