@@ -6,7 +6,6 @@ ghost use Rattle.listing.specs.Lines.{line_of, item_lines, constant_lines, listi
 ghost use Rattle.listing.specs.Listed.{answered, due_for, fitted, left_by, text_of, Opened};
 ghost use Rattle.constants.specs.Decoded.{constants_of};
 ghost use Rattle.decode.specs.Words.{items_of};
-ghost use Rattle.decode.specs.Words.{items_of, item_at};
 
 use crate::refusal::ListRefusal;
 use checker::check::judge_known;
@@ -20,12 +19,9 @@ use view::{Image, view_image};
 fn put_line<T: Script>(pen: &mut Pen, entry: Option<T>)
     ensures { Puts pen.old (line_of T.Script.text entry) pen.new }
 {
-    match entry {
-        Some(entry) => {
-            entry.put_on(pen);
-            pen.put_byte(b'\n')
-        }
-        None => {}
+    if let Some(entry) = entry {
+        entry.put_on(pen);
+        pen.put_byte(b'\n');
     }
 }
 

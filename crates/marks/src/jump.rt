@@ -17,7 +17,7 @@ fn direct_at(items: Items, place: usize) -> Option<u16>
     }
 }
 
-// The mark that the jump named at a place goes to: its second pin. Asked of a place that there is, since its definition tells nothing of others.
+// The mark that the jump named at a place goes to: its second pin. Asked of a place that there is: tried of any, and the proof did not close.
 fn target_at(items: Items, place: usize) -> Option<u16>
     requires { place < length items.words.now / 2 }
     ensures { result ≡ target_at items.entry.edition items.entry.words.now place }
@@ -28,7 +28,8 @@ fn target_at(items: Items, place: usize) -> Option<u16>
     }
 }
 
-// Whether the item at a place names a jump whose mark is not ahead. By a match: tried by `is_some_and`, and the proof did not close.
+// Whether the item at a place names a jump whose mark is not ahead. Asked of a place that there is, as the mark is. By a match:
+// tried by `is_some_and`, and the proof did not close.
 fn is_astray(items: Items, place: usize) -> bool
     requires { place < length items.words.now / 2 }
     ensures { result ≡ astray items.entry.edition items.entry.words.now place }
