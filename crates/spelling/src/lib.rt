@@ -3,9 +3,12 @@
 
 ghost use Rattle.std.specs.Prelude.{◌≡◌, length};
 ghost use Rattle.spelling.specs.Rule.{spellings, Rule, Back, Only};
-ghost use Rattle.spelling.specs.Spellings.{spelt_at, spelt_below};
+ghost use Rattle.spelling.specs.Spellings.{spelt_at, spelt_below, mnemonic_spelt, kind_spelt, block_spelt};
 
+use catalogue::Block;
+use item::mnemonic::Mnemonic;
 use operand::edition::Edition;
+use operand::kind::Kind;
 
 pub mod spelled;
 
@@ -30,6 +33,26 @@ pub fn find_spelt<T: Spelled>(edition: Edition, text: &[u8]) -> Option<T>
         }
     }
     None
+}
+
+// Mnemonics and letters are the same in every edition, so it does not matter which is named.
+pub fn mnemonic_spelt(text: &[u8]) -> Option<Mnemonic>
+    ensures { result ≡ mnemonic_spelt text.now }
+{
+    find_spelt::<Mnemonic>(Edition::Series90, text)
+}
+
+pub fn kind_spelt(text: &[u8]) -> Option<Kind>
+    ensures { result ≡ kind_spelt text.now }
+{
+    find_spelt::<Kind>(Edition::Series90, text)
+}
+
+// The block of that name, if the edition knows it.
+pub fn block_spelt(edition: Edition, text: &[u8]) -> Option<Block>
+    ensures { result ≡ block_spelt edition text.now }
+{
+    find_spelt::<Block>(edition, text)
 }
 
 // There is nothing to run: what is ensured holds of the tables.

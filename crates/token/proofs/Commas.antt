@@ -12,7 +12,7 @@ found_at : {X : Type 0} (p : X → Bool) (xs : List X) (i : ℕ) → Some i ≡ 
 found_at p xs i h = grind (arith, nat_tests)
 
 -- the two sides of the comma make the whole again
-rejoined : (bs : List ℕ) (i : ℕ) → i < length bs → get_or bs i 0 ≡ 44 → take i bs ++ (44 ∷ drop (i + 1) bs) ≡ bs
+pub rejoined : (bs : List ℕ) (i : ℕ) → i < length bs → get_or bs i 0 ≡ 44 → take i bs ++ (44 ∷ drop (i + 1) bs) ≡ bs
 rejoined bs i l h = ap (λ x. take i bs ++ (x ∷ drop (i + 1) bs)) (sym h) ∙ ap (λ xs. take i bs ++ xs) (sym (drop_more bs i 0 l)) ∙ take-append-drop i bs
 
 pub comma_found : (bs : List ℕ) (i : ℕ) → Some i ≡ position is_comma bs → (take i bs ≡ before bs) × (take (length bs - (i + 1)) (drop (i + 1) bs) ≡ after bs) × (take i bs ++ (44 ∷ take (length bs - (i + 1)) (drop (i + 1) bs)) ≡ bs)

@@ -1,51 +1,40 @@
 -- One byte further in a text.
-use Rattle.std.proofs.Common.{◌≡◌, ℕ, suc, ◌+◌, ◌-◌, ◌<◌, ◌≤◌, Bool, true, false, cond, not, unwrap_or, Some, None, List, [], ◌∷◌, length, get_or, take, drop, sym, refl, ap, ◌∙◌, subst, add-one, arith, length-drop}
+use Rattle.std.proofs.Common.{◌≡◌, ℕ, zero, suc, ◌+◌, ◌-◌, ◌<◌, ◌≤◌, Bool, true, false, cond, leb, not, unwrap_or, MatchOption, Some, None, Option, List, [], ◌∷◌, length, get_or, take, drop, sym, refl, ap, ◌∙◌, subst, add-one, arith, length-drop}
 use Rattle.std.specs.List.{position, position_or_len}
-use Rattle.std.proofs.lemmas.List.Quantifiers.{position-Some}
 use Rattle.std.proofs.lemmas.List.Recursion.{is_position_or_len}
 use Rattle.std.proofs.lemmas.List.Sums.{prefix_len-le-length}
-use Rattle.std.proofs.lemmas.Bool.{not-true}
 use Rattle.std.proofs.lemmas.Bool.Decides.{nat_tests}
-use Rattle.std.proofs.lemmas.List.{drop_more, drop-drop, at_drop_all, get_or-drop}
+use Rattle.std.proofs.lemmas.List.{drop_more, drop-drop, at_drop_all}
 use Rattle.character.specs.Classes.{is_separator}
 use Rattle.token.specs.Cuts.{parts_of, extend}
-use Rattle.token.specs.Runs.{run_length}
+use Rattle.token.specs.Runs.{run_length, Begins}
 
-abbrev in_part : ℕ → Bool
-in_part c = not (is_separator c)
+pub skip_step : (bs : List ℕ) (i : ℕ) → i < length bs → true ≡ is_separator (get_or bs i 0) → parts_of i (drop i bs) ≡ parts_of (i + 1) (drop (i + 1) bs)
+skip_step bs i l h = rw (drop_more bs i 0 l, sym h, add-one) refl
 
--- the separators in front are passed over
-skips : (p : ℕ) (bs : List ℕ) → parts_of p bs ≡ parts_of (p + position_or_len in_part bs) (drop (position_or_len in_part bs) bs)
-skips p [] = refl
-skips p (c ∷ cs) = by (is_separator c) refl (skips (suc p) cs)
+-- separators alone from one place to another are passed over
+skips : (bs : List ℕ) (from k : ℕ) → from + k ≤ length bs → ((j : ℕ) → from ≤ j → j < from + k → is_separator (get_or bs j 0) ≡ true) → parts_of from (drop from bs) ≡ parts_of (from + k) (drop (from + k) bs)
+skips bs from zero l h = ap (λ n. parts_of n (drop n bs)) (omega arith)
+skips bs from (suc k) l h =
+    let before = skips bs from k (omega arith) (λ j a b. h j a (omega arith)) in
+    let one = skip_step bs (from + k) (omega arith) (sym (h (from + k) (omega arith) (omega arith))) in
+    before ∙ one ∙ ap (λ n. parts_of n (drop n bs)) (omega arith)
+
+skips_to : (bs : List ℕ) (from n : ℕ) → from ≤ n → n ≤ length bs → ((j : ℕ) → from ≤ j → j < n → is_separator (get_or bs j 0) ≡ true) → parts_of from (drop from bs) ≡ parts_of n (drop n bs)
+skips_to bs from n a l h =
+    let same : from + (n - from) ≡ n = omega arith in
+    skips bs from (n - from) (omega arith) (λ j u v. h j u (omega arith)) ∙ ap (λ m. parts_of m (drop m bs)) same
+
+-- what a walk over the places found is where the next part begins
+pub begins : (bs : List ℕ) (from n : ℕ) (r : Option ℕ) → n ≡ length bs
+    → MatchOption r ((k : ℕ) → from ≤ k → k < n → is_separator (get_or bs k 0) ≡ true) (λ q. (from ≤ q) × (q < n) × (is_separator (get_or bs q 0) ≡ false) × ((k : ℕ) → from ≤ k → k < q → is_separator (get_or bs k 0) ≡ true))
+    → Begins bs from r
+begins bs from n None e h = by (leb from (length bs)) refl
   where
-    by : (b : Bool) → is_separator c ≡ b → parts_of (suc p) cs ≡ parts_of (suc p + position_or_len in_part cs) (drop (position_or_len in_part cs) cs) → parts_of p (c ∷ cs) ≡ parts_of (p + position_or_len in_part (c ∷ cs)) (drop (position_or_len in_part (c ∷ cs)) (c ∷ cs))
-    by true e h =
-        let k : ℕ = position_or_len in_part cs in
-        let n : position_or_len in_part (c ∷ cs) ≡ suc k = rw e (omega arith) in
-        let first : parts_of p (c ∷ cs) ≡ parts_of (suc p) cs = rw e refl in
-        rw n (first ∙ h ∙ ap (λ q. parts_of q (drop k cs)) (omega arith))
-    by false e h =
-        let n : position_or_len in_part (c ∷ cs) ≡ 0 = rw e refl in
-        rw n (ap (λ q. parts_of q (c ∷ cs)) (omega arith))
-
--- where the next part begins
-module _ (bs rest : List ℕ) (from : ℕ) (is : rest ≡ drop from bs) where
-  pub none_left : None ≡ position in_part rest → parts_of from (drop from bs) ≡ []
-  none_left h =
-      let past : length rest ≤ position_or_len in_part rest = grind (arith, nat_tests) in
-      ap (parts_of from) (sym is) ∙ skips from rest ∙ at_drop_all (parts_of (from + position_or_len in_part rest)) rest (position_or_len in_part rest) past
-
-  pub next_begins : (n : ℕ) → Some n ≡ position in_part rest → (parts_of from (drop from bs) ≡ parts_of (from + n) (drop (from + n) bs)) × (from + n < length bs) × (is_separator (get_or bs (from + n) 0) ≡ false)
-  next_begins n h =
-      let at : n ≡ position_or_len in_part rest = grind (arith, nat_tests) in
-      let there = position-Some in_part rest n 0 (sym h) in
-      let behind : drop n rest ≡ drop (from + n) bs = ap (drop n) is ∙ drop-drop n from bs in
-      let same : parts_of from rest ≡ parts_of (from + n) (drop n rest) = skips from rest ∙ ap (λ k. parts_of (from + k) (drop k rest)) (sym at) in (
-        ap (parts_of from) (sym is) ∙ same ∙ ap (parts_of (from + n)) behind,
-        omega (arith, there.0, ap length is, length-drop from bs),
-        ap is_separator (sym (ap (λ xs. get_or xs n 0) is ∙ get_or-drop from bs n 0)) ∙ not-true _ there.1,
-      )
+    by : (b : Bool) → leb from (length bs) ≡ b → parts_of from (drop from bs) ≡ []
+    by true t = skips_to bs from (length bs) (grind (arith, nat_tests)) (omega arith) (λ j u v. h j u (omega arith)) ∙ at_drop_all (parts_of (length bs)) bs (length bs) (omega arith)
+    by false t = at_drop_all (parts_of from) bs from (grind (arith, nat_tests))
+begins bs from n (Some q) e (a, b, c, d) = (skips_to bs from q a (omega arith) d, a, omega arith, c)
 
 -- how many bytes in front are no separators, as a search for the first separator finds it
 pub run_is : (bs : List ℕ) → unwrap_or (position is_separator bs) (length bs) ≡ run_length bs

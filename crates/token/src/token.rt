@@ -16,7 +16,7 @@ use item::mnemonic::Mnemonic;
 use numeral::{is_natural, is_number};
 use operand::edition::Edition;
 use operand::kind::Kind;
-use spelling::find_spelt;
+use spelling::{block_spelt, kind_spelt, mnemonic_spelt};
 use std::alloc::{AllocFailed, Global};
 
 // A token borrows its part of the text, beside what it was found to be.
@@ -79,13 +79,13 @@ fn pair_of<'a>(part: &'a [u8]) -> Option<Token<'a>>
 pub fn token_of<'a>(edition: Edition, part: &'a [u8]) -> Option<Token<'a>>
     ensures { Reads part.now (tok_of edition part.now) result }
 {
-    if let Some(mnemonic) = find_spelt::<Mnemonic>(edition, part) {
+    if let Some(mnemonic) = mnemonic_spelt(part) {
         return Some(Token::Operator(part, mnemonic));
     }
-    if let Some(kind) = find_spelt::<Kind>(edition, part) {
+    if let Some(kind) = kind_spelt(part) {
         return Some(Token::Letters(part, kind));
     }
-    if let Some(block) = find_spelt::<Block>(edition, part) {
+    if let Some(block) = block_spelt(edition, part) {
         return Some(Token::Block(part, block));
     }
     if part == b":=".as_slice() {
