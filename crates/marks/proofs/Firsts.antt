@@ -13,7 +13,7 @@ here_or_later : {Q : Type 0} (p k : ℕ) → p ≤ k → (k ≡ p → Q) → (p 
 here_or_later p k h same more = by_place p k h same more (eqb k p) refl
 
 module _ (test : ℕ → Bool) (end : ℕ) where
-  ended : (i : ℕ) → end ≤ i → None ≡ first_place test i end
+  pub ended : (i : ℕ) → end ≤ i → None ≡ first_place test i end
   unfolding first_of
   ended i h = let none : 0 ≡ end - i = omega arith in ap (λ (n : ℕ). first_of test n i) none
 

@@ -41,7 +41,7 @@ one_at_most true = omega arith
 one_at_most false = omega arith
 
 -- n bits are below 2 to the n
-gathered_below : (xs : List Bool) (first n : ℕ) → gathered xs first n < 2 ^ n
+pub gathered_below : (xs : List Bool) (first n : ℕ) → gathered xs first n < 2 ^ n
 unfolding gathered
 gathered_below xs first zero = omega arith
 gathered_below xs first (suc n) = omega (arith, gathered_below xs (suc first) n, one_at_most (get_or xs first false))
